@@ -21,6 +21,10 @@ pub all_woken-threads : (ws : List (ThreadIx × Told)) (s : State) → all_woken
 all_woken-threads [] s = refl
 all_woken-threads (w ∷ ws) s = all_woken-threads ws (with_thread s w.0.0 (record (thread_at s w.0.0) { told = Some w.1 }))
 
+-- the same under a name that code may cite
+pub woken_threads : (ws : List (ThreadIx × Told)) (s : State) → all_woken ws s ≡ record s { threads = threads_woken ws s.threads }
+woken_threads ws s = all_woken-threads ws s
+
 -- the steps that a thread has left stay where others are told something, and so does its mode
 pub pending-threads_woken : (ws : List (ThreadIx × Told)) (s : State) (t : ℕ) → (slice_index_or (threads_woken ws s.threads) t nobody).pending ≡ (thread_at s t).pending
 pending-threads_woken ws s t = ap (λ (s2 : State). (thread_at s2 t).pending) (sym (all_woken-threads ws s)) ∙ pending-all_woken ws s t
@@ -28,7 +32,7 @@ pending-threads_woken ws s t = ap (λ (s2 : State). (thread_at s2 t).pending) (s
 mode-threads_woken : (ws : List (ThreadIx × Told)) (s : State) (t : ℕ) → (slice_index_or (threads_woken ws s.threads) t nobody).mode ≡ (thread_at s t).mode
 mode-threads_woken ws s t =
     ap (λ (s2 : State). (thread_at s2 t).mode) (sym (all_woken-threads ws s))
-    ∙ stays (λ (me : Thread). me.mode) (record { due = λ h me due. refl; told = λ h me told. refl; domain = λ h me domain. refl; doomed = λ h me. refl }) (does (Effect.wakes ws) ∷ []) s t refl
+    ∙ stays (λ (me : Thread). me.mode) (record { due = λ h me due. refl; told = λ h me told. refl; domain = λ h me domain. refl; doomed = λ h me. refl; flagged = λ h me aborted suspended. refl }) (does (Effect.wakes ws) ∷ []) s t refl
 
 -- the state after an act on the object of a row
 abbrev pub acted_on : State → ℕ → ℕ → Ask → Steps → Acted → State

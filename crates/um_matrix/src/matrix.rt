@@ -10,6 +10,7 @@ mod domains;
 mod dumped;
 mod dynamic;
 mod ends;
+mod futexes;
 mod make;
 mod memory;
 mod moves;
@@ -18,16 +19,19 @@ mod objects;
 mod pairs;
 mod rows;
 mod says;
+mod stops;
 mod strings;
+mod time;
 mod transfer;
 mod waiting;
 
 ghost use Rattle.std.specs.Prelude.{◌≡◌, ◌<◌, ◌≤◌, length};
 
+use crate::clock::Clock;
 use crate::object_table::ObjectTable;
 use std::marker::Model;
 use um_base::{AREA_SIZE, DOMAINS, Image, POOLS, Parts, ROWS, THREADS};
-use um_machine::{Object, Thread};
+use um_machine::{Object, Thread, Waiters};
 use um_service::Outcome;
 
 /// The event is no step of the machine from its present state.
@@ -47,6 +51,11 @@ pub struct Matrix<'a> {
     memory: Vec<u8>,
     stacks: Vec<u8>,
     pools: Vec<u32>,
+    clock: Clock,
+    /// Those who wait for the end of a thread.
+    joins: Waiters,
+    /// Those who wait on a futex.
+    futexes: Waiters,
     /// Room for one outcome: what an act on an object answers and whom it wakes.
     outcome: Vec<Outcome>,
 }
@@ -68,6 +77,10 @@ impl<'a> Model for Matrix<'a> {
       memory = m.memory.items;
       stacks = m.stacks.items;
       pools = m.pools.items;
+      now = m.clock.0;
+      armed = m.clock.1;
+      joins = m.joins;
+      futexes = m.futexes;
     } };
 
     ghost invariant = { λ m.

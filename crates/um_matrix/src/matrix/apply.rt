@@ -22,8 +22,9 @@ impl<'a> Matrix<'a> {
             Some(Choice::Begins) => self.begin(t),
             Some(Choice::Exits) => self.exit(t),
             Some(Choice::Makes { step, row, taken }) => self.make(t, row, &step, taken),
-            Some(Choice::CleansPair { who, row }) => self.clean_pair(t, row, who),
-            Some(Choice::Recycles { row }) => self.recycle(row),
+            Some(Choice::Stops) => self.killed(t),
+            Some(Choice::Leaves) => self.left(t),
+            Some(Choice::Tends { step, row }) => self.tend(t, row, &step),
         }
         Ok(())
     }

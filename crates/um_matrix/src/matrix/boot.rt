@@ -3,11 +3,13 @@
 ghost use Rattle.std.specs.Prelude.{◌≡◌, IfOk, length};
 ghost use Rattle.um_base.specs.Lawful.{IsLawful};
 
+use crate::clock::Clock;
 use crate::matrix::Matrix;
 use crate::object_table::ObjectTable;
 use std::alloc::Global;
 use um_base::{Image, OutOfMemory};
 use um_boot::OpeningState;
+use um_machine::Waiters;
 use um_service::Outcome;
 
 /// Room for one outcome.
@@ -29,6 +31,7 @@ impl<'a> Matrix<'a> {
     {
         let parts = OpeningState::boot(alloc, image)?.into_parts();
         let objects = ObjectTable::boot(alloc, parts.image)?;
+        let clock = Clock::new(alloc)?;
         let outcome = outcome(alloc)?;
         Ok(Matrix {
             image: parts.image,
@@ -40,6 +43,9 @@ impl<'a> Matrix<'a> {
             memory: parts.memory,
             stacks: parts.stacks,
             pools: parts.pools,
+            clock,
+            joins: Waiters::new(),
+            futexes: Waiters::new(),
             outcome,
         })
     }

@@ -1,15 +1,16 @@
 //! Which step an act is, by the steps that its thread is offered.
 
-ghost use Rattle.std.specs.Prelude.{◌≡◌, ◌<◌, ◌≤◌, slice_get, IfSome, IfNone, IsTrue, Some, None, ℕ, length};
+ghost use Rattle.std.specs.Prelude.{◌≡◌, ◌<◌, slice_get, IfSome, IfNone, IsTrue, Some, None, ℕ, length};
 ghost use Rattle.um_machine.specs.{Limits.{IsSound}, declared.pending.Pending.{Pending}};
-ghost use Rattle.um_matrix.specs.Offered.{chooses, row_count, is_skipped, pair_of};
+ghost use Rattle.um_matrix.specs.Offered.{rest_choice, row_count, is_skipped, is_tending, tending_of};
 
 use crate::matrix::Matrix;
 use crate::matrix::checks::none_set;
-use um_base::{Act, Event, ROWS, THREADS, ThreadIx};
+use um_base::{Act, Event, FUTEX_CELL, ROWS, THREADS};
 use um_machine::places::instruction_at;
-use um_machine::{Life, Pending};
+use um_machine::{Life, Pending, Place};
 use um_steps::same::same_act;
+use um_steps::waits::{is_ending, may_go, must_stop};
 
 /// What is made of an act that is a step.
 #[derive(Clone, Copy)]
@@ -24,38 +25,59 @@ pub enum Choice {
         row: usize,
         taken: usize,
     },
-    /// The thread drops a permission of this other thread, whose own object is gone.
-    CleansPair {
-        who: ThreadIx,
-        row: usize,
-    },
-    /// The thread recycles the object of this row.
-    Recycles {
+    /// The thread ends since it was aborted.
+    Stops,
+    /// The thread, which ends, tells those who wait for it.
+    Leaves,
+    /// The thread makes this step, which isn't of its instruction, with this row or cell.
+    Tends {
+        step: Pending,
         row: usize,
     },
 }
 
-/// Whether a step chooses a row.
-fn chooses(step: &Pending) -> bool
-    ensures { result ≡ chooses step.now }
+/// How many rows are tried for a step, or how many cells.
+fn row_count(step: &Pending) -> usize
+    ensures { result ≡ row_count step.now }
 {
     match step {
         Pending::Inherit { .. }
         | Pending::Drops { .. }
         | Pending::Reserve { .. }
         | Pending::CleanPair { .. }
-        | Pending::Recycle => true,
-        _ => false,
+        | Pending::Recycle
+        | Pending::Expire => ROWS,
+        Pending::TimeOut { .. } | Pending::Cut { .. } => FUTEX_CELL + 1,
+        Pending::Join { .. } => 2,
+        _ => 1,
     }
 }
 
-/// The thread that loses a pair in an act.
-fn pair_of(act: &Act) -> Option<ThreadIx>
-    ensures { result ≡ pair_of act.now }
+/// The step that tends and says an act, if there is one.
+fn tending_of(act: &Act) -> Option<Pending>
+    ensures value { result ≡ tending_of act.now }
+    ensures tends { IfSome result (λ step. IsTrue (is_tending step)) }
+    ensures sound { IfSome result IsSound }
 {
     match act {
-        Act::DropPair { who, .. } => Some(*who),
+        Act::DropPair { who, .. } => Some(Pending::CleanPair { who: *who }),
+        Act::Recycle { .. } => Some(Pending::Recycle),
+        Act::Tick { .. } => Some(Pending::Tick),
+        Act::TimedOut { who } => Some(Pending::TimeOut { who: *who }),
+        Act::Expire { .. } => Some(Pending::Expire),
+        Act::Cut { who } => Some(Pending::Cut { who: *who }),
         _ => None,
+    }
+}
+
+/// What is made of the act of a thread at rest.
+fn rest_choice(act: &Act) -> Choice
+    ensures { result ≡ rest_choice act.now }
+{
+    match act {
+        Act::Exit => Choice::Exits,
+        Act::Killed => Choice::Stops,
+        _ => Choice::Begins,
     }
 }
 
@@ -70,8 +92,8 @@ fn is_skipped(step: Option<Pending>) -> bool
 }
 
 impl<'a> Matrix<'a> {
-    ghost use Rattle.um_machine.specs.{Run.{MayChoose}, State.{State, thread_at, is_started}, Table.{act_of}};
-    ghost use Rattle.um_matrix.specs.Offered.{IsNoStep, IsChoice, SaysNot, first_step, second_step, rest_step, rest_act};
+    ghost use Rattle.um_machine.specs.{Joins.{is_ending}, Run.{MayChoose}, State.{State, instruction_at, thread_at, is_started}, Table.{act_of}};
+    ghost use Rattle.um_matrix.specs.Offered.{IsNoStep, IsChoice, SaysNot, first_step, second_step, rest_step, rest_act, line_act};
 
     /// The next step of a thread's instruction.
     pub fn next_step(&self, t: usize) -> Option<Pending>
@@ -96,15 +118,13 @@ impl<'a> Matrix<'a> {
         }
     }
 
-    /// How many rows are tried for a step: all that there are, where it chooses one.
+    /// How many rows are tried for a step, or how many cells: all that there are, where it chooses one.
     pub fn row_count(&self, step: &Pending) -> usize
         ensures value { result ≡ row_count step.now }
-        ensures few { result ≤ ROWS }
         ensures objects { length self.now.objects ≡ ROWS }
         ensures pairs { length self.now.pairs ≡ ROWS }
     {
-        let rows = self.pairs.len();
-        if chooses(step) { rows } else { 1 }
+        row_count(step)
     }
 
     /// What a thread at rest says next.
@@ -113,15 +133,29 @@ impl<'a> Matrix<'a> {
         ensures { result ≡ rest_act self.now t }
     {
         let thread = &self.threads[t];
-        if thread.life != Life::Living || thread.doomed {
+        if thread.life != Life::Living {
             return None;
         }
-        match instruction_at(self.image, thread.place) {
-            Some(_) => Some(Act::Begin {
-                script: thread.place.script,
-                line: thread.place.line + 1,
-            }),
-            None => Some(Act::Exit),
+        if may_go(thread) {
+            return Some(self.line_act(thread.place));
+        }
+        if must_stop(thread) {
+            Some(Act::Killed)
+        } else {
+            None
+        }
+    }
+
+    /// What a thread says that goes on at a place.
+    fn line_act(&self, place: Place) -> Act
+        ensures { result ≡ line_act place (instruction_at self.now.image place) }
+    {
+        match instruction_at(self.image, place) {
+            Some(_) => Act::Begin {
+                script: place.script,
+                line: place.line + 1,
+            },
+            None => Act::Exit,
         }
     }
 
@@ -129,7 +163,7 @@ impl<'a> Matrix<'a> {
     pub(crate) fn row_for(&self, t: usize, step: &Pending, act: &Act) -> Option<usize>
         requires thread { t < THREADS }
         requires sound { IsSound step.now }
-        ensures inside { IfSome result (λ x. x < ROWS) }
+        ensures inside { IfSome result (λ x. x < row_count step.now) }
         ensures found { IfSome result
             (λ x. MayChoose self.now t x step.now × (act.now ≡ act_of self.now t x step.now)) }
         ensures none { IfNone result (SaysNot self.now t act.now step.now) }
@@ -143,7 +177,6 @@ impl<'a> Matrix<'a> {
     }
 
     /// The act as the begin of a line, or as an exit.
-    #[tactic(auto, using(crate::proofs::OfferLemmas::at_rest))]
     fn at_rest(&self, t: usize, act: &Act) -> Option<Choice>
         requires thread { t < THREADS }
         requires rest { slice_get (thread_at self.now t).pending 0 ≡ None }
@@ -157,10 +190,7 @@ impl<'a> Matrix<'a> {
                 if !same_act(act, &said) {
                     return None;
                 }
-                match instruction_at(self.image, self.threads[t].place) {
-                    Some(_) => Some(Choice::Begins),
-                    None => Some(Choice::Exits),
-                }
+                Some(rest_choice(act))
             }
         }
     }
@@ -211,6 +241,14 @@ impl<'a> Matrix<'a> {
         }
     }
 
+    /// Whether a thread is in its end.
+    pub fn is_ending(&self, t: usize) -> bool
+        requires { t < THREADS }
+        ensures { result ≡ is_ending (thread_at self.now t) }
+    {
+        is_ending(&self.threads[t])
+    }
+
     /// Whether a thread was started.
     pub fn is_started(&self, t: usize) -> bool
         requires { t < THREADS }
@@ -223,51 +261,58 @@ impl<'a> Matrix<'a> {
         }
     }
 
-    /// The act as the drop of a pair of a thread whose object is gone.
-    #[tactic(auto, using(crate::proofs::OfferLemmas::steps_made))]
-    fn by_pair(&self, t: usize, who: ThreadIx, act: &Act) -> Option<Choice>
+    /// The act as one that tells those who wait for the end of a thread.
+    fn by_leaving(&self, t: usize, act: &Act) -> Option<Choice>
         requires thread { t < THREADS }
-        requires started { IsTrue (is_started (thread_at self.now t).life) }
         ensures some { IfSome result (λ choice. IsChoice self.now t act.now choice) }
-        ensures none { IfNone result (SaysNot self.now t act.now (Pending.CleanPair who)) }
+        ensures none { IfNone result
+            (IsTrue (is_ending (thread_at self.now t)) → SaysNot self.now t act.now Pending.Left) }
     {
-        match self.row_for(t, &Pending::CleanPair { who }, act) {
-            Some(row) => Some(Choice::CleansPair { who, row }),
+        if !is_ending(&self.threads[t]) {
+            return None;
+        }
+        match self.row_for(t, &Pending::Left, act) {
+            Some(_) => Some(Choice::Leaves),
             None => None,
         }
     }
 
-    /// The act as the recycling of an object.
-    #[tactic(auto, using(crate::proofs::OfferLemmas::steps_made))]
-    fn by_object(&self, t: usize, act: &Act) -> Option<Choice>
-        requires thread { t < THREADS }
-        requires started { IsTrue (is_started (thread_at self.now t).life) }
-        ensures some { IfSome result (λ choice. IsChoice self.now t act.now choice) }
-        ensures none { IfNone result (SaysNot self.now t act.now Pending.Recycle) }
-    {
-        match self.row_for(t, &Pending::Recycle, act) {
-            Some(row) => Some(Choice::Recycles { row }),
-            None => None,
-        }
-    }
-
-    /// The act as one that cleans.
-    #[tactic(auto, using(crate::proofs::OfferLemmas::cleanings))]
-    fn by_cleaning(&self, t: usize, act: &Act) -> Option<Choice>
+    /// The act as a step that isn't of an instruction.
+    fn by_tending(&self, t: usize, act: &Act) -> Option<Choice>
         requires thread { t < THREADS }
         ensures some { IfSome result (λ choice. IsChoice self.now t act.now choice) }
-        ensures pairs { IfNone result
-            (IsTrue (is_started (thread_at self.now t).life) → (who : ThreadIx)
-            → SaysNot self.now t act.now (Pending.CleanPair who)) }
-        ensures objects { IfNone result
-            (IsTrue (is_started (thread_at self.now t).life) → SaysNot self.now t act.now Pending.Recycle) }
+        ensures none { IfNone result
+            (IsTrue (is_started (thread_at self.now t).life) → (step : Pending) → IsTrue (is_tending step)
+            → SaysNot self.now t act.now step) }
     {
         if !self.is_started(t) {
             return None;
         }
-        match pair_of(act) {
-            Some(who) => self.by_pair(t, who, act),
-            None => self.by_object(t, act),
+        match tending_of(act) {
+            None => None,
+            Some(step) => match self.row_for(t, &step, act) {
+                Some(row) => Some(Choice::Tends { step, row }),
+                None => None,
+            },
+        }
+    }
+
+    /// The act as a step that any thread may make of those that it is offered.
+    fn by_other(&self, t: usize, act: &Act) -> Option<Choice>
+        requires thread { t < THREADS }
+        ensures some { IfSome result (λ choice. IsChoice self.now t act.now choice) }
+        ensures leaves { IfNone result
+            (IsTrue (is_ending (thread_at self.now t)) → SaysNot self.now t act.now Pending.Left) }
+        ensures tends { IfNone result
+            (IsTrue (is_started (thread_at self.now t).life) → (step : Pending) → IsTrue (is_tending step)
+            → SaysNot self.now t act.now step) }
+    {
+        match self.by_leaving(t, act) {
+            Some(choice) => Some(choice),
+            None => match self.by_tending(t, act) {
+                Some(choice) => Some(choice),
+                None => None,
+            },
         }
     }
 
@@ -284,7 +329,7 @@ impl<'a> Matrix<'a> {
         }
         match self.by_steps(t, &event.act) {
             Some(choice) => Some(choice),
-            None => match self.by_cleaning(t, &event.act) {
+            None => match self.by_other(t, &event.act) {
                 Some(choice) => Some(choice),
                 None => None,
             },

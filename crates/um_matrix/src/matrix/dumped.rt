@@ -71,6 +71,14 @@ impl<'a> Dumped for Matrix<'a> {
         self.objects.row(row).waiters.as_slice()
     }
 
+    fn joins(&self) -> &[Waiter] {
+        self.joins.as_slice()
+    }
+
+    fn futexes(&self) -> &[Waiter] {
+        self.futexes.as_slice()
+    }
+
     fn has_pair(&self, thread: usize, row: usize) -> bool {
         self.pairs[row][thread]
     }

@@ -1,11 +1,13 @@
 //! What the steps change.
 
-ghost use Rattle.std.specs.Prelude.{◌≡◌, ◌<◌, drop};
+ghost use Rattle.std.specs.Prelude.{◌≡◌, ◌<◌, [], IsTrue, drop, length};
+ghost use Rattle.um_base.specs.declared.limits.TheConstants.{MOST_WEIGHT};
 ghost use Rattle.um_machine.specs.Limits.{IsSound};
+ghost use Rattle.um_matrix.specs.Offered.{is_tending, row_count};
 
 use crate::matrix::Matrix;
 use crate::matrix::creation::Beginning;
-use um_base::{Act, ROWS, THREADS};
+use um_base::{Act, THREADS};
 use um_machine::Pending;
 
 impl<'a> Matrix<'a> {
@@ -14,7 +16,8 @@ impl<'a> Matrix<'a> {
     /// Makes a step, with the row that it chooses if it chooses one. `taken` of the thread's pending steps are over then.
     pub fn make(&mut self, t: usize, x: usize, step: &Pending, taken: usize)
         requires thread { t < THREADS }
-        requires row { x < ROWS }
+        requires row { x < row_count step.now }
+        requires room { length self.old.armed < MOST_WEIGHT }
         requires sound { IsSound step.now }
         requires taken { 0 < taken }
         ensures { self.new ≡ after self.old t x step.now (drop taken (thread_at self.old t).pending) }
@@ -88,6 +91,42 @@ impl<'a> Matrix<'a> {
             Pending::Dooms { from } => self.doom(t, *from, taken),
             Pending::CleanPair { who } => self.clean_pair(t, x, *who),
             Pending::Recycle => self.recycle(x),
+            Pending::Arm { ticks } => self.arm(t, *ticks, taken),
+            Pending::ArmTimer { ticks } => self.arm_timer(t, *ticks, taken),
+            Pending::Tick => self.tick(),
+            Pending::TimeOut { who } => self.time_out(x, *who),
+            Pending::Expire => self.expire(x),
+            Pending::Abort { who } => self.abort(t, *who, taken),
+            Pending::Suspend { who } => self.suspend(t, *who, taken),
+            Pending::Continue { who } => self.resume_other(t, *who, taken),
+            Pending::Cut { who } => self.cut(x, *who),
+            Pending::Killed => self.killed(t),
+            Pending::Join { who, timeout } => self.join(t, x, *who, *timeout, taken),
+            Pending::Left => self.left(t),
+            Pending::FutexWait {
+                addr,
+                value,
+                timeout,
+            } => self.futex_wait(t, *addr, *value, *timeout, taken),
+            Pending::FutexWake { addr, all } => self.futex_wake(t, *addr, *all, taken),
+        }
+    }
+
+    /// Makes a step that isn't of an instruction, with the row or cell that it chooses.
+    pub fn tend(&mut self, t: usize, x: usize, step: &Pending)
+        requires thread { t < THREADS }
+        requires row { x < row_count step.now }
+        requires tends { IsTrue (is_tending step.now) }
+        ensures { self.new ≡ after self.old t x step.now [] }
+    {
+        match step {
+            Pending::CleanPair { who } => self.clean_pair(t, x, *who),
+            Pending::Recycle => self.recycle(x),
+            Pending::Tick => self.tick(),
+            Pending::TimeOut { who } => self.time_out(x, *who),
+            Pending::Expire => self.expire(x),
+            Pending::Cut { who } => self.cut(x, *who),
+            _ => unreachable!(),
         }
     }
 }

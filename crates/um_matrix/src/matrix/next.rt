@@ -8,16 +8,17 @@ use crate::matrix::Matrix;
 use crate::matrix::moves::holders_of;
 use um_base::{Act, Event, ROWS, THREADS, ThreadIx};
 use um_machine::Pending;
+use um_steps::waits::is_ending;
 
 impl<'a> Matrix<'a> {
-    ghost use Rattle.um_machine.specs.{Run.{MayChoose, IsComplete}, State.{thread_at, is_started}};
-    ghost use Rattle.um_matrix.specs.Offered.{IsStep, event_of, first_step, second_step, is_tending, Says, ChoosesNone, IsIdle};
+    ghost use Rattle.um_machine.specs.{Joins.{is_ending}, Run.{MayChoose, IsComplete}, State.{thread_at, is_started}};
+    ghost use Rattle.um_matrix.specs.Offered.{IsStep, event_of, first_step, second_step, is_tending, row_count, Says, ChoosesNone, IsIdle};
 
     /// The first row that a step may choose.
     fn least_row(&self, t: usize, step: &Pending) -> Option<usize>
         requires thread { t < THREADS }
         requires sound { IsSound step.now }
-        ensures inside { IfSome result (λ x. x < ROWS) }
+        ensures inside { IfSome result (λ x. x < row_count step.now) }
         ensures found { IfSome result (λ x. MayChoose self.now t x step.now) }
         ensures none { IfNone result (ChoosesNone self.now t step.now) }
     {
@@ -105,6 +106,7 @@ impl<'a> Matrix<'a> {
         requires { x < ROWS }
         ensures some { IfSome result (λ step. MayChoose self.now t x step × IsTrue (is_tending step)) }
         ensures sound { IfSome result IsSound }
+        ensures inside { IfSome result (λ step. x < row_count step) }
         ensures pairs { IfNone result
             ((who : ThreadIx) → MayChoose self.now t x (Pending.CleanPair who) → ⊥) }
         ensures objects { IfNone result (MayChoose self.now t x Pending.Recycle → ⊥) }
@@ -140,6 +142,115 @@ impl<'a> Matrix<'a> {
         None
     }
 
+    /// What a thread says that tells those who wait for its end.
+    fn leaving_act(&self, t: usize) -> Option<Act>
+        requires { t < THREADS }
+        ensures some { IfSome result (λ act. IsStep self.now (event_of t act)) }
+        ensures none { IfNone result
+            (IsTrue (is_ending (thread_at self.now t)) → ChoosesNone self.now t Pending.Left) }
+    {
+        if !is_ending(&self.threads[t]) {
+            return None;
+        }
+        match self.act_with(t, &Pending::Left) {
+            Some(act) => Some(act),
+            None => None,
+        }
+    }
+
+    /// What a thread says by a step that ends the wait of another.
+    fn waking_of(&self, t: usize, who: ThreadIx) -> Option<Act>
+        requires thread { t < THREADS }
+        requires started { IsTrue (is_started (thread_at self.now t).life) }
+        ensures some { IfSome result (λ act. IsStep self.now (event_of t act)) }
+        ensures times { IfNone result (ChoosesNone self.now t (Pending.TimeOut who)) }
+        ensures cuts { IfNone result (ChoosesNone self.now t (Pending.Cut who)) }
+    {
+        match self.act_with(t, &Pending::TimeOut { who }) {
+            Some(act) => Some(act),
+            None => match self.act_with(t, &Pending::Cut { who }) {
+                Some(act) => Some(act),
+                None => None,
+            },
+        }
+    }
+
+    /// What a thread says by a step that ends a wait.
+    fn waking_act(&self, t: usize) -> Option<Act>
+        requires thread { t < THREADS }
+        requires started { IsTrue (is_started (thread_at self.now t).life) }
+        ensures some { IfSome result (λ act. IsStep self.now (event_of t act)) }
+        ensures times { IfNone result ((who : ThreadIx) → ChoosesNone self.now t (Pending.TimeOut who)) }
+        ensures cuts { IfNone result ((who : ThreadIx) → ChoosesNone self.now t (Pending.Cut who)) }
+    {
+        for who in 0..self.threads().len() {
+            match self.waking_of(t, ThreadIx(who as u8)) {
+                Some(act) => return Some(act),
+                None => {}
+            }
+        }
+        None
+    }
+
+    /// What a thread says by a step of virtual time alone.
+    fn clock_act(&self, t: usize) -> Option<Act>
+        requires thread { t < THREADS }
+        requires started { IsTrue (is_started (thread_at self.now t).life) }
+        ensures some { IfSome result (λ act. IsStep self.now (event_of t act)) }
+        ensures ticks { IfNone result (ChoosesNone self.now t Pending.Tick) }
+        ensures timers { IfNone result (ChoosesNone self.now t Pending.Expire) }
+    {
+        match self.act_with(t, &Pending::Tick) {
+            Some(act) => Some(act),
+            None => match self.act_with(t, &Pending::Expire) {
+                Some(act) => Some(act),
+                None => None,
+            },
+        }
+    }
+
+    /// What a thread says by a step that isn't of an instruction.
+    fn tending_act(&self, t: usize) -> Option<Act>
+        requires { t < THREADS }
+        ensures some { IfSome result (λ act. IsStep self.now (event_of t act)) }
+        ensures none { IfNone result
+            (IsTrue (is_started (thread_at self.now t).life) → (step : Pending) → IsTrue (is_tending step)
+            → ChoosesNone self.now t step) }
+    {
+        if !self.is_started(t) {
+            return None;
+        }
+        match self.cleaning_act(t) {
+            Some(act) => Some(act),
+            None => match self.waking_act(t) {
+                Some(act) => Some(act),
+                None => match self.clock_act(t) {
+                    Some(act) => Some(act),
+                    None => None,
+                },
+            },
+        }
+    }
+
+    /// What a thread says that isn't of its instruction.
+    fn other_act(&self, t: usize) -> Option<Act>
+        requires { t < THREADS }
+        ensures some { IfSome result (λ act. IsStep self.now (event_of t act)) }
+        ensures leaves { IfNone result
+            (IsTrue (is_ending (thread_at self.now t)) → ChoosesNone self.now t Pending.Left) }
+        ensures tends { IfNone result
+            (IsTrue (is_started (thread_at self.now t).life) → (step : Pending) → IsTrue (is_tending step)
+            → ChoosesNone self.now t step) }
+    {
+        match self.leaving_act(t) {
+            Some(act) => Some(act),
+            None => match self.tending_act(t) {
+                Some(act) => Some(act),
+                None => None,
+            },
+        }
+    }
+
     /// What a thread may say.
     #[tactic(auto, using(crate::proofs::OfferLemmas::no_steps))]
     fn act_by(&self, t: usize) -> Option<Act>
@@ -149,7 +260,7 @@ impl<'a> Matrix<'a> {
     {
         match self.step_act(t) {
             Some(act) => Some(act),
-            None => match self.cleaning_act(t) {
+            None => match self.other_act(t) {
                 Some(act) => Some(act),
                 None => None,
             },

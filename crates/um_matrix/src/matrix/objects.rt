@@ -61,6 +61,7 @@ impl<'a> Matrix<'a> {
         let thread = &mut self.threads[t];
         let reply = reply.unwrap_or(thread.reply);
         thread.checked = [false; ROWS];
+        thread.until = None;
         put_answer(&mut thread.registers, to, reply);
         thread.goes_on(self.image, taken);
     }

@@ -2,14 +2,16 @@
 
 ghost use Rattle.std.specs.Prelude.{◌≡◌, ◌<◌, ◌≤◌, ◌↔◌, ◌⊎◌, IsTrue, None, Some, ℕ, false};
 ghost use Rattle.um_machine.specs.Order.{to_thread};
+ghost use Rattle.um_matrix.specs.Offered.{row_count};
 
 use crate::matrix::Matrix;
 use crate::matrix::checks::none_set;
 use crate::matrix::moves::{flag, holders_of};
-use um_base::{Kind, ROWS, STATIC_ROWS, THREADS, ThreadIx};
+use um_base::{Addr, FUTEX_CELL, Kind, ROWS, STATIC_ROWS, THREADS, ThreadIx};
 use um_machine::{Pending, Status};
 use um_steps::kinds::{dynamic_kind, kind_number};
 use um_steps::rows::{own_row, thread_of_row};
+use um_steps::time::{has_come, has_run_out};
 
 /// Whether no other thread cleans.
 fn no_other(cleaner: Option<ThreadIx>, t: usize) -> bool
@@ -131,10 +133,52 @@ impl<'a> Matrix<'a> {
         }
     }
 
+    /// Whether an object may be marked as uninitialised: a thread's own one not while its end is awaited.
+    fn may_clear(&self, t: usize, x: usize, a: Addr) -> bool
+        requires { t < THREADS }
+        ensures { IsTrue result ↔ MayChoose self.now t x (Pending.ClearInit a) }
+    {
+        let _ = x;
+        !(self.row_of(a) == own_row(self.image, t) && self.is_joined(t))
+    }
+
+    /// Whether a wait may end since its deadline has come.
+    fn may_time_out(&self, t: usize, x: usize, who: ThreadIx) -> bool
+        requires { x ≤ FUTEX_CELL }
+        ensures { IsTrue result ↔ MayChoose self.now t x (Pending.TimeOut who) }
+    {
+        let _ = t;
+        match self.threads.get(who.0 as usize) {
+            None => false,
+            Some(thread) => has_come(self.clock.now(), thread.until) && self.waits_at(who, x),
+        }
+    }
+
+    /// Whether a wait may end since its thread was aborted.
+    fn may_cut(&self, t: usize, x: usize, who: ThreadIx) -> bool
+        requires { x ≤ FUTEX_CELL }
+        ensures { IsTrue result ↔ MayChoose self.now t x (Pending.Cut who) }
+    {
+        let _ = t;
+        match self.threads.get(who.0 as usize) {
+            None => false,
+            Some(thread) => thread.aborted && self.waits_at(who, x),
+        }
+    }
+
+    /// Whether the timer of a row may run out.
+    fn may_expire(&self, t: usize, x: usize) -> bool
+        requires { x < ROWS }
+        ensures { IsTrue result ↔ MayChoose self.now t x Pending.Expire }
+    {
+        let _ = t;
+        has_run_out(self.clock.now(), &self.objects.row(x).contents)
+    }
+
     /// Whether a step may choose a row.
     pub fn may_choose(&self, t: usize, x: usize, step: &Pending) -> bool
         requires thread { t < THREADS }
-        requires row { x < ROWS }
+        requires row { x < row_count step.now }
         ensures { IsTrue result ↔ MayChoose self.now t x step.now }
     {
         match step {
@@ -144,6 +188,13 @@ impl<'a> Matrix<'a> {
             Pending::CleanPair { who } => self.may_clean_pair(t, x, *who),
             Pending::Recycle => self.may_recycle(t, x),
             Pending::Resume => self.is_told(t, x),
+            Pending::ClearInit { addr } => self.may_clear(t, x, *addr),
+            Pending::Join { who, timeout } => self.may_join(t, x, *who, *timeout),
+            Pending::Left => self.is_joined(t),
+            Pending::Tick => self.clock.next().is_some(),
+            Pending::TimeOut { who } => self.may_time_out(t, x, *who),
+            Pending::Expire => self.may_expire(t, x),
+            Pending::Cut { who } => self.may_cut(t, x, *who),
             _ => true,
         }
     }

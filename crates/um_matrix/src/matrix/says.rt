@@ -3,11 +3,13 @@
 ghost use Rattle.std.specs.Prelude.{◌≡◌, ◌<◌, ◌≤◌, ℕ};
 ghost use Rattle.um_base.specs.Places.{addr_of};
 ghost use Rattle.um_machine.specs.{Limits.{IsSound}, Order.{to_addr}};
+ghost use Rattle.um_matrix.specs.Offered.{row_count};
 
 use crate::matrix::Matrix;
 use crate::matrix::checks::set_said;
 use um_base::{Access, Act, Addr, Kind, ROWS, THREADS, ThreadIx};
 use um_machine::Pending;
+use um_service::says_run_out;
 use um_steps::bytes::le_value;
 use um_steps::rows::addr_of;
 
@@ -101,7 +103,7 @@ impl<'a> Matrix<'a> {
     /// Writes what a step says, with the row that it chooses, where it does.
     pub(crate) fn puts_said(&self, t: usize, x: usize, step: &Pending, act: &mut Act)
         requires thread { t < THREADS }
-        requires row { x < ROWS }
+        requires row { x < row_count step.now }
         requires sound { IsSound step.now }
         ensures { act.new ≡ act_of self.now t x step.now }
     {
@@ -221,12 +223,50 @@ impl<'a> Matrix<'a> {
             Pending::Recycle => *act = Act::Recycle {
                 addr: self.addr_of(x),
             },
+            Pending::Arm { ticks } | Pending::ArmTimer { ticks } => *act = Act::Arm {
+                deadline: self.clock.deadline(*ticks),
+            },
+            Pending::Tick => self.says_tick(act),
+            Pending::TimeOut { who } => *act = Act::TimedOut { who: *who },
+            Pending::Expire => *act = Act::Expire {
+                addr: self.addr_of(x),
+                woken: says_run_out(&self.objects.row(x).waiters),
+            },
+            Pending::Abort { who } => *act = Act::Abort {
+                who: *who,
+                done: self.lives(*who),
+            },
+            Pending::Suspend { who } => *act = Act::Suspend {
+                who: *who,
+                done: self.lives(*who),
+            },
+            Pending::Continue { who } => *act = Act::Continue {
+                who: *who,
+                done: self.lives(*who),
+            },
+            Pending::Cut { who } => *act = Act::Cut { who: *who },
+            Pending::Killed => *act = Act::Killed,
+            Pending::Join { who, timeout } => *act = Act::Join {
+                who: *who,
+                answer: self.join_answer(t, x, *who, *timeout),
+            },
+            Pending::Left => self.says_left(t, act),
+            Pending::FutexWait {
+                addr,
+                value,
+                timeout,
+            } => *act = Act::FutexWait {
+                addr: *addr,
+                value: *value,
+                answer: self.futex_answer(t, *addr, *value, *timeout),
+            },
+            Pending::FutexWake { addr, all } => self.says_futex_wake(t, *addr, *all, act),
         }
     }
     /// What a step says, with the row that it chooses, where it does.
     pub fn says(&self, t: usize, x: usize, step: &Pending) -> Act
         requires thread { t < THREADS }
-        requires row { x < ROWS }
+        requires row { x < row_count step.now }
         requires sound { IsSound step.now }
         ensures { result ≡ act_of self.now t x step.now }
     {

@@ -7,7 +7,7 @@ ghost use Rattle.um_machine.specs.{
   State.{nobody},
   Table.{bytes_given},
 };
-ghost use Rattle.um_matrix.specs.Worked.{threads_woken, answered};
+ghost use Rattle.um_matrix.specs.Worked.{threads_woken, answered, asked};
 
 use crate::matrix::Matrix;
 use um_base::{Act, Addr, Answer, Ask, Image, Piece, Reply, THREADS, ThreadIx, Told, Waiter};
@@ -19,7 +19,7 @@ use um_steps::order::after_error;
 
 /// A thread is told something.
 #[inline(never)]
-fn tell(threads: &mut [Thread], who: ThreadIx, told: &Told)
+pub(crate) fn tell(threads: &mut [Thread], who: ThreadIx, told: &Told)
     ensures { threads.new ≡ slice_set threads.old who.0
         (record (slice_index_or threads.old who.0 nobody) { told = Some told.now }) }
 {
@@ -30,7 +30,7 @@ fn tell(threads: &mut [Thread], who: ThreadIx, told: &Told)
 
 /// The woken threads are told.
 #[inline(never)]
-fn wake(threads: &mut [Thread], woken: &[(ThreadIx, Told)])
+pub(crate) fn wake(threads: &mut [Thread], woken: &[(ThreadIx, Told)])
     ensures { threads.new ≡ threads_woken woken.now threads.old }
 {
     for i in 0..woken.len() {
@@ -67,12 +67,28 @@ fn after_answer(
     }
 }
 
+/// What an answer leaves to its caller that asked no object.
+#[inline(never)]
+pub(crate) fn after_asking(image: &Image, thread: &mut Thread, answer: Answer, taken: usize)
+    requires { 0 < taken }
+    ensures { thread.new ≡ asked image.now thread.old (drop taken thread.old.pending) answer }
+{
+    match answer {
+        Answer::Wait => thread.goes_to(&Pending::Resume, taken),
+        Answer::Now(reply) => {
+            thread.reply = reply;
+            thread.buffer = Piece::new();
+            thread.goes_on(image, taken);
+        }
+    }
+}
+
 impl<'a> Matrix<'a> {
     ghost use Rattle.um_machine.specs.{State.{thread_at}, Table.{act_of, after}};
 
     /// A thread as it works on an object.
     #[inline(never)]
-    fn worker(&self, t: usize, ask: &Ask) -> Waiter
+    pub(crate) fn worker(&self, t: usize, ask: &Ask) -> Waiter
         requires { t < THREADS }
         ensures value { result
             ≡ record {
@@ -80,6 +96,7 @@ impl<'a> Matrix<'a> {
               priority = (thread_at self.now t).priority;
               ask = ask.now;
               bytes = bytes_given (thread_at self.now t).buffer ask.now;
+              until = (thread_at self.now t).until;
             } }
         ensures sound { IsTrue (is_sound_ask ask.now) → IsTrue (is_sound_ask result.ask) }
     {
@@ -89,6 +106,7 @@ impl<'a> Matrix<'a> {
             priority: thread.priority,
             ask: *ask,
             bytes: bytes_given(&thread.buffer, ask),
+            until: thread.until,
         }
     }
 

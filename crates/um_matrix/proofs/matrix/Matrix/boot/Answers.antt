@@ -1,4 +1,4 @@
-use Rattle.std.proofs.Common.{◌∙◌, ap, sym}
+use Rattle.std.proofs.Common.{◌∙◌, ℕ, List, ap, sym}
 use Rattle.um_base.specs.declared.image.Image.{Image}
 use Rattle.um_machine.specs.Memory.{rodata_of}
 use Rattle.um_machine.specs.Run.{objects_from}
@@ -18,5 +18,5 @@ invariant_of-result c =
 pub returns : goal.returns
 returns c =
     let parts = c.into_parts-parts.ensures in
-    state-is _ parts.image parts.threads (c.in_ok-objects.ensures.items ∙ ap (λ (i : Image). objects_from i.boots 0 i.objects) parts.image ∙ sym parts.objects) parts.pairs parts.domains parts.memory parts.stacks parts.pools
+    state-is _ parts.image parts.threads (c.in_ok-objects.ensures.items ∙ ap (λ (i : Image). objects_from i.boots 0 i.objects) parts.image ∙ sym parts.objects) parts.pairs parts.domains parts.memory parts.stacks parts.pools (ap (λ (k : ℕ × List ℕ). k.0) c.in_ok-clock.ensures ∙ sym parts.now) (ap (λ (k : ℕ × List ℕ). k.1) c.in_ok-clock.ensures ∙ sym parts.armed) (c.new.ensures ∙ sym parts.joins) (c.new.ensures ∙ sym parts.futexes)
     ∙ c.in_ok-boot.ensures
