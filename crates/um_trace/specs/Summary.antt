@@ -30,9 +30,11 @@ abbrev pub is_fatal : Act → Bool
 is_fatal (Act.Fatal reason cause) = true
 is_fatal _ = false
 
--- work on an object that waits
+-- work on an object that waits, or a call that waits for an end or on a futex
 abbrev pub is_wait : Act → Bool
 is_wait (Act.Work addr Answer.Wait woken) = true
+is_wait (Act.Join who Answer.Wait) = true
+is_wait (Act.FutexWait addr value Answer.Wait) = true
 is_wait _ = false
 
 abbrev pub is_recycle : Act → Bool
@@ -57,6 +59,8 @@ events_that counted events = count_by (λ (event : Event). counts counted event.
 abbrev pub is_so : Shown → Standing → Bool
 is_so Shown.Ended Standing.Ended = true
 is_so Shown.Waiting (Standing.Waits row) = true
+is_so Shown.Waiting (Standing.Joins who) = true
+is_so Shown.Waiting (Standing.Watches a) = true
 is_so shown standing = false
 
 abbrev pub stands_so : Shown → State → Option ℕ → Bool
