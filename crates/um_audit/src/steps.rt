@@ -1,16 +1,16 @@
 //! Which line is that of a step. A line is compared with the lines of the steps that its thread may make, and the step whose line is the
 //! same is made.
 
-ghost use Rattle.std.specs.Prelude.{◌≡◌, ◌<◌, ◌≤◌, ◌∷◌, ◌++◌, ◌↔◌, [], IfSome, IfNone, IsTrue, Some, None, false, true, if◌then◌else◌, length, slice_get, slice_index_or, vec_capacity, codes};
+ghost use Rattle.std.specs.Prelude.{◌≡◌, ◌<◌, ◌≤◌, ◌∷◌, ◌++◌, ◌↔◌, [], IfSome, IfNone, IsTrue, Some, None, false, true, length, slice_get, slice_index_or, vec_capacity, codes};
 ghost use Rattle.um_trace.specs.Names.{thread_text};
 ghost use Rattle.um_base.specs.declared.names.ThreadIx.{ThreadIx};
 ghost use Rattle.um_machine.specs.{
+  Joins.{is_ending},
   Limits.{IsSound},
   State.{thread_at, is_started},
   declared.pending.Pending.{Pending},
 };
-ghost use Rattle.um_matrix.specs.Offered.{first_step, second_step, rest_step, rest_choice, event_of};
-ghost use Rattle.um_matrix.specs.declared.matrix.choice.Choice.TheVariants as Choice;
+ghost use Rattle.um_matrix.specs.Offered.{first_step, second_step, is_tending, rest_step, row_count};
 ghost use Rattle.um_audit.specs.{
   Beginnings.{AreBeginnings},
   Steps.{IsLine, IsStepLine, IsNoStepLine, IsThreadsLine, IsNoThreadsLine, MakesLine, SaysLine, SaysNotLine},
@@ -43,7 +43,7 @@ fn says_line(
     room: &mut Vec<u8>,
 ) -> bool
     requires thread { t < THREADS }
-    requires row { x < ROWS }
+    requires row { x < row_count step.now }
     requires sound { IsSound step.now }
     requires room { LINE_ROOM ≤ vec_capacity room.old }
     ensures says { IsTrue result ↔ SaysLine image.now line.now matrix.now t step.now x }
@@ -71,7 +71,7 @@ fn row_for(
     requires thread { t < THREADS }
     requires sound { IsSound step.now }
     requires room { LINE_ROOM ≤ vec_capacity room.old }
-    ensures inside { IfSome result (λ x. x < ROWS) }
+    ensures inside { IfSome result (λ x. x < row_count step.now) }
     ensures found { IfSome result (λ x. SaysLine image.now line.now matrix.now t step.now x) }
     ensures none { IfNone result (SaysNotLine image.now line.now matrix.now t step.now) }
     ensures capacity { vec_capacity room.old ≤ vec_capacity room.new }
@@ -82,16 +82,6 @@ fn row_for(
         }
     }
     None
-}
-
-/// Whether an act is a thread's exit.
-fn is_exit(act: &Act) -> bool
-    ensures { rest_choice act.now ≡ (if result then Choice.Exits else Choice.Begins) }
-{
-    match act {
-        Act::Exit => true,
-        _ => false,
-    }
 }
 
 /// Makes what a thread at rest does next, if the line says that.
@@ -116,10 +106,10 @@ fn at_rest(matrix: &mut Matrix, image: &Image, t: usize, line: &[u8], room: &mut
     if !is_line(image, &event, line, room) {
         return false;
     }
-    if is_exit(&event.act) {
-        matrix.exit(t);
-    } else {
-        matrix.begin(t);
+    match event.act {
+        Act::Exit => matrix.exit(t),
+        Act::Killed => matrix.killed(t),
+        _ => matrix.begin(t),
     }
     true
 }
@@ -184,23 +174,100 @@ fn by_second(matrix: &mut Matrix, image: &Image, t: usize, line: &[u8], room: &m
     }
 }
 
-/// Recycles an object, if the line says that.
-fn by_object(matrix: &mut Matrix, image: &Image, t: usize, line: &[u8], room: &mut Vec<u8>) -> bool
+/// A thread in its end tells those who wait for it, if the line says that.
+fn by_leaving(matrix: &mut Matrix, image: &Image, t: usize, line: &[u8], room: &mut Vec<u8>) -> bool
     requires thread { t < THREADS }
-    requires started { IsTrue (is_started (thread_at matrix.old t).life) }
     requires room { LINE_ROOM ≤ vec_capacity room.old }
     ensures yes { result ≡ true → IsThreadsLine image.now line.now t matrix.old matrix.new }
-    ensures none { result ≡ false → SaysNotLine image.now line.now matrix.old t Pending.Recycle }
+    ensures none { result ≡ false → IsTrue (is_ending (thread_at matrix.old t))
+        → SaysNotLine image.now line.now matrix.old t Pending.Left }
     ensures same { result ≡ false → matrix.new ≡ matrix.old }
     ensures capacity { vec_capacity room.old ≤ vec_capacity room.new }
 {
-    match row_for(matrix, image, t, &Pending::Recycle, line, room) {
-        Some(x) => {
-            matrix.recycle(x);
+    if !matrix.is_ending(t) {
+        return false;
+    }
+    match row_for(matrix, image, t, &Pending::Left, line, room) {
+        Some(_) => {
+            matrix.left(t);
             true
         }
         None => false,
     }
+}
+
+/// Makes a step that isn't of an instruction, if the line says that.
+fn by_tending(
+    matrix: &mut Matrix,
+    image: &Image,
+    t: usize,
+    step: &Pending,
+    line: &[u8],
+    room: &mut Vec<u8>,
+) -> bool
+    requires thread { t < THREADS }
+    requires started { IsTrue (is_started (thread_at matrix.old t).life) }
+    requires tends { IsTrue (is_tending step.now) }
+    requires sound { IsSound step.now }
+    requires room { LINE_ROOM ≤ vec_capacity room.old }
+    ensures yes { result ≡ true → IsThreadsLine image.now line.now t matrix.old matrix.new }
+    ensures none { result ≡ false → SaysNotLine image.now line.now matrix.old t step.now }
+    ensures same { result ≡ false → matrix.new ≡ matrix.old }
+    ensures capacity { vec_capacity room.old ≤ vec_capacity room.new }
+{
+    match row_for(matrix, image, t, step, line, room) {
+        Some(x) => {
+            matrix.tend(t, x, step);
+            true
+        }
+        None => false,
+    }
+}
+
+/// Makes a step that ends the wait of another thread, if the line says that.
+fn by_waking(matrix: &mut Matrix, image: &Image, t: usize, line: &[u8], room: &mut Vec<u8>) -> bool
+    requires thread { t < THREADS }
+    requires started { IsTrue (is_started (thread_at matrix.old t).life) }
+    requires room { LINE_ROOM ≤ vec_capacity room.old }
+    ensures yes { result ≡ true → IsThreadsLine image.now line.now t matrix.old matrix.new }
+    ensures times { result ≡ false → (who : ThreadIx)
+        → SaysNotLine image.now line.now matrix.old t (Pending.TimeOut who) }
+    ensures cuts { result ≡ false → (who : ThreadIx)
+        → SaysNotLine image.now line.now matrix.old t (Pending.Cut who) }
+    ensures same { result ≡ false → matrix.new ≡ matrix.old }
+    ensures capacity { vec_capacity room.old ≤ vec_capacity room.new }
+{
+    for who in 0..THREADS {
+        let who = ThreadIx(who as u8);
+        if by_tending(matrix, image, t, &Pending::TimeOut { who }, line, room) {
+            return true;
+        }
+        if by_tending(matrix, image, t, &Pending::Cut { who }, line, room) {
+            return true;
+        }
+    }
+    false
+}
+
+/// Makes a step of virtual time alone, or frees an object, if the line says that.
+fn by_clock(matrix: &mut Matrix, image: &Image, t: usize, line: &[u8], room: &mut Vec<u8>) -> bool
+    requires thread { t < THREADS }
+    requires started { IsTrue (is_started (thread_at matrix.old t).life) }
+    requires room { LINE_ROOM ≤ vec_capacity room.old }
+    ensures yes { result ≡ true → IsThreadsLine image.now line.now t matrix.old matrix.new }
+    ensures objects { result ≡ false → SaysNotLine image.now line.now matrix.old t Pending.Recycle }
+    ensures ticks { result ≡ false → SaysNotLine image.now line.now matrix.old t Pending.Tick }
+    ensures timers { result ≡ false → SaysNotLine image.now line.now matrix.old t Pending.Expire }
+    ensures same { result ≡ false → matrix.new ≡ matrix.old }
+    ensures capacity { vec_capacity room.old ≤ vec_capacity room.new }
+{
+    if by_tending(matrix, image, t, &Pending::Recycle, line, room) {
+        return true;
+    }
+    if by_tending(matrix, image, t, &Pending::Tick, line, room) {
+        return true;
+    }
+    by_tending(matrix, image, t, &Pending::Expire, line, room)
 }
 
 /// Who has a pair with the object of a row.
@@ -262,28 +329,26 @@ fn by_pair(matrix: &mut Matrix, image: &Image, t: usize, line: &[u8], room: &mut
     false
 }
 
-/// Makes a step that cleans, if the line is that of one.
-fn by_cleaning(
-    matrix: &mut Matrix,
-    image: &Image,
-    t: usize,
-    line: &[u8],
-    room: &mut Vec<u8>,
-) -> bool
+/// Makes a step that isn't of an instruction, if the line is that of one.
+fn by_other(matrix: &mut Matrix, image: &Image, t: usize, line: &[u8], room: &mut Vec<u8>) -> bool
     requires thread { t < THREADS }
     requires room { LINE_ROOM ≤ vec_capacity room.old }
     ensures yes { result ≡ true → IsThreadsLine image.now line.now t matrix.old matrix.new }
-    ensures pairs { result ≡ false → IsTrue (is_started (thread_at matrix.old t).life) → (who : ThreadIx)
-        → SaysNotLine image.now line.now matrix.old t (Pending.CleanPair who) }
-    ensures objects { result ≡ false → IsTrue (is_started (thread_at matrix.old t).life)
-        → SaysNotLine image.now line.now matrix.old t Pending.Recycle }
+    ensures none { result ≡ false → IsTrue (is_started (thread_at matrix.old t).life) → (step : Pending) → IsTrue (is_tending step)
+        → SaysNotLine image.now line.now matrix.old t step }
     ensures same { result ≡ false → matrix.new ≡ matrix.old }
     ensures capacity { vec_capacity room.old ≤ vec_capacity room.new }
 {
     if !matrix.is_started(t) {
         return false;
     }
-    by_object(matrix, image, t, line, room) || by_pair(matrix, image, t, line, room)
+    if by_clock(matrix, image, t, line, room) {
+        return true;
+    }
+    if by_pair(matrix, image, t, line, room) {
+        return true;
+    }
+    by_waking(matrix, image, t, line, room)
 }
 
 /// Makes a step of a thread, if the line is that of one.
@@ -301,7 +366,10 @@ fn by_thread(matrix: &mut Matrix, image: &Image, t: usize, line: &[u8], room: &m
     if by_second(matrix, image, t, line, room) {
         return true;
     }
-    by_cleaning(matrix, image, t, line, room)
+    if by_leaving(matrix, image, t, line, room) {
+        return true;
+    }
+    by_other(matrix, image, t, line, room)
 }
 
 /// The same, with a first look at how the line begins: a thread's lines begin with its name.
