@@ -1,7 +1,7 @@
 //! What acts answer, and whom they wake.
 
 ghost use Rattle.std.specs.{
-  Prelude.{◌+◌, ◌*◌, ◌≤◌, ◌++◌, length, codes, vec_len, vec_capacity},
+  Prelude.{◌+◌, ◌*◌, ◌≤◌, length, vec_len, vec_capacity},
   List.{flat_map},
 };
 ghost use Rattle.um_trace.specs.{Acts.{answer_text, wake_text}, Room.{Puts}};

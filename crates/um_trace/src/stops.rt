@@ -1,6 +1,6 @@
 //! The texts of acts that stop other threads, and of threads that are stopped or wait for an end.
 
-ghost use Rattle.std.specs.Prelude.{◌+◌, ◌≤◌, ◌++◌, codes, vec_len, vec_capacity};
+ghost use Rattle.std.specs.Prelude.{◌+◌, ◌≤◌, vec_len, vec_capacity};
 ghost use Rattle.um_trace.specs.{Acts.{stop_act_text}, Room.{Puts}};
 
 use crate::answers::put_answer;

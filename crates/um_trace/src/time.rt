@@ -1,6 +1,6 @@
 //! The texts of acts of virtual time.
 
-ghost use Rattle.std.specs.Prelude.{◌+◌, ◌≤◌, ◌++◌, codes, vec_len, vec_capacity};
+ghost use Rattle.std.specs.Prelude.{◌+◌, ◌≤◌, vec_len, vec_capacity};
 ghost use Rattle.um_trace.specs.{Acts.{time_act_text}, Room.{Puts}};
 
 use crate::indexed::Indexed;

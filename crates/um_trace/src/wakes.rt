@@ -1,6 +1,6 @@
 //! The texts of acts that wake threads without a call on an object, and of calls on futexes.
 
-ghost use Rattle.std.specs.Prelude.{◌+◌, ◌*◌, ◌≤◌, ◌++◌, codes, vec_len, vec_capacity};
+ghost use Rattle.std.specs.Prelude.{◌+◌, ◌*◌, ◌≤◌, vec_len, vec_capacity};
 ghost use Rattle.um_trace.specs.{Acts.{wake_act_text}, Room.{Puts}, Text.{woken_by}};
 
 use crate::answers::{put_answer, put_wakes};
