@@ -124,6 +124,7 @@ impl<'a> Matrix<'a> {
         ensures objects { length self.now.objects ≡ ROWS }
         ensures pairs { length self.now.pairs ≡ ROWS }
     {
+        let _pairs = self.pairs.len();
         row_count(step)
     }
 

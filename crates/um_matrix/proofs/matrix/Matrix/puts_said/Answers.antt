@@ -23,3 +23,12 @@ returns-in-DomAdd c = rw c.in-DomAdd.is (c.says_domain_add.ensures c.args.t c.ar
 
 pub returns-in-DomRemove : goal.returns-in-DomRemove
 returns-in-DomRemove c = rw c.in-DomRemove.is (c.says_domain_remove.ensures c.args.t c.args.x)
+
+pub returns-in-Tick : goal.returns-in-Tick
+returns-in-Tick c = rw c.in-Tick.is (c.says_tick.ensures c.args.t c.args.x)
+
+pub returns-in-Left : goal.returns-in-Left
+returns-in-Left c = rw c.in-Left.is (c.says_left.ensures c.args.x)
+
+pub returns-in-FutexWake : goal.returns-in-FutexWake
+returns-in-FutexWake c = rw c.in-FutexWake.is (c.says_futex_wake.ensures c.args.x)
