@@ -269,7 +269,7 @@ impl<'a> Matrix<'a> {
         ensures none { IfNone result
             (IsTrue (is_ending (thread_at self.now t)) → SaysNot self.now t act.now Pending.Left) }
     {
-        if !is_ending(&self.threads[t]) {
+        if !self.is_ending(t) {
             return None;
         }
         match self.row_for(t, &Pending::Left, act) {

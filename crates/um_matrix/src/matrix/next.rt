@@ -8,7 +8,6 @@ use crate::matrix::Matrix;
 use crate::matrix::moves::holders_of;
 use um_base::{Act, Event, ROWS, THREADS, ThreadIx};
 use um_machine::Pending;
-use um_steps::waits::is_ending;
 
 impl<'a> Matrix<'a> {
     ghost use Rattle.um_machine.specs.{Joins.{is_ending}, Run.{MayChoose, IsComplete}, State.{thread_at, is_started}};
@@ -149,7 +148,7 @@ impl<'a> Matrix<'a> {
         ensures none { IfNone result
             (IsTrue (is_ending (thread_at self.now t)) → ChoosesNone self.now t Pending.Left) }
     {
-        if !is_ending(&self.threads[t]) {
+        if !self.is_ending(t) {
             return None;
         }
         match self.act_with(t, &Pending::Left) {
