@@ -167,14 +167,7 @@ impl<'a> Matrix<'a> {
     }
 
     /// A thread asks for the end of another, and waits for it where it isn't over.
-    pub(crate) fn join(
-        &mut self,
-        t: usize,
-        x: usize,
-        who: ThreadIx,
-        timeout: Timeout,
-        taken: usize,
-    )
+    pub(crate) fn join(&mut self, t: usize, x: usize, who: ThreadIx, timeout: Timeout, taken: usize)
         requires thread { t < THREADS }
         requires taken { 0 < taken }
         ensures { self.new ≡ after self.old t x (Pending.Join who timeout)
