@@ -1,5 +1,5 @@
 -- The cell of memory: what it answers, which steps it takes, and what each leaves.
-use Rattle.std.specs.Prelude.{ℕ, zero, suc, ◌+◌, Bool, true, false, ◌==◌, not, if◌then◌else◌, List, [], ◌∷◌, ◌++◌, filter, length, map, take, Option, Some, None, slice_index, slice_set}
+use Rattle.std.specs.Prelude.{ℕ, zero, suc, ◌+◌, Bool, true, ◌==◌, not, if◌then◌else◌, List, [], ◌∷◌, ◌++◌, filter, length, map, take, Option, Some, None, slice_index, slice_set}
 use Rattle.std.specs.List.{list_any}
 use Rattle.um_base.specs.declared.act.Answer.{Answer}
 use Rattle.um_base.specs.declared.ask.Told.{Told}
