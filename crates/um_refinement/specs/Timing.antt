@@ -1,0 +1,92 @@
+-- Virtual time: the clock, marks that are owed, and that who waits with a deadline has a mark.
+use Rattle.std.specs.Prelude.{◌≡◌, ℕ, ◌+◌, ◌<◌, ◌≤◌, Bool, true, false, ◌==◌, ◌&&◌, ◌||◌, not, nat_le, if◌then◌else◌, List, [], ◌∷◌, Some, IsTrue}
+use Rattle.std.specs.List.{list_any, list_all}
+use Rattle.um_base.specs.declared.limits.TheConstants.{ROWS}
+use Rattle.um_machine.specs.declared.contents.Contents.TheVariants as Contents
+use Rattle.um_machine.specs.Order.{to_row}
+use Rattle.um_machine.specs.State.{State, thread_at, object_at, is_started, waiters_in}
+use Rattle.um_words.specs.declared.fine.Mark.{Mark}
+use Rattle.um_fine.specs.Clock.{Marked, deadlines, same_mark}
+use Rattle.um_fine.specs.Places.{Todo, Todos, is_paid}
+use Rattle.um_fine.specs.Processor.{actor_or}
+use Rattle.um_fine.specs.Seeking.{deadline_of}
+use Rattle.um_refinement.specs.Fine.{Fine, clock, one_if, over_processors, scheduler}
+use Rattle.um_refinement.specs.Lists.{counted, is_arm, times}
+use Rattle.um_refinement.specs.Stops.{cell_site, waits_at}
+
+-- The clock has the machine's time and deadlines.
+pub record ClockIs (f : Fine) (m : State) : Type 0 where
+  pub now : (clock f).now ≡ m.now
+  pub armed : deadlines (clock f).marks ≡ m.armed
+
+-- how many marks weren't given
+abbrev pub left_marks : List Marked → ℕ
+left_marks [] = 0
+left_marks (x ∷ xs) = if x.given then left_marks xs else left_marks xs + 1
+
+-- a mark is owed by now that a processor arms next
+abbrev pub arms : Todos → Bool
+arms [] = false
+arms (Todo.owe ∷ todo) = false
+arms (Todo.show q rest ∷ todo) = is_arm q
+arms (q ∷ todo) = arms todo
+
+-- Owed are the marks that are about to be armed, those in the clock that weren't given, and those in hands.
+pub record OwedIs (f : Fine) : Type 0 where
+  pub owed : (scheduler f).owed ≡ over_processors f (λ p. one_if (arms p.todo) + counted is_paid p.todo) + left_marks (clock f).marks
+
+-- such a mark, that isn't settled; how many there are, and how many are to be settled
+abbrev pub is_open : ℕ → Mark → Marked → Bool
+is_open deadline mark x = not x.settled && x.deadline == deadline && same_mark x.mark mark
+
+abbrev pub open_marks : ℕ → Mark → List Marked → ℕ
+open_marks deadline mark [] = 0
+open_marks deadline mark (x ∷ xs) = if is_open deadline mark x then open_marks deadline mark xs + 1 else open_marks deadline mark xs
+
+abbrev pub settles : ℕ → Mark → Todo → Bool
+settles deadline mark (Todo.settle d m) = d == deadline && same_mark m mark
+settles deadline mark _ = false
+
+abbrev pub is_sound : ℕ → Marked → Bool
+is_sound now x = not x.given || (x.settled && nat_le x.deadline now)
+
+-- Each mark that isn't settled is one that a processor is to settle. One that was given is settled, and its deadline has come; so it has of
+-- one in a hand.
+pub record MarksAre (f : Fine) : Type 0 where
+  pub unsettled : (deadline : ℕ) (mark : Mark) → open_marks deadline mark (clock f).marks ≡ over_processors f (λ p. counted (settles deadline mark) p.todo)
+  pub given : IsTrue (list_all (is_sound (clock f).now) (clock f).marks)
+  pub hands : (k deadline : ℕ) (mark : Mark) (todo : Todos) → k < f.cpus → (f.processors k).todo ≡ Todo.handle deadline mark ∷ todo → deadline ≤ (clock f).now
+
+-- a mark that is still to be handled: the clock has it and hasn't given it, or it is in a hand
+abbrev pub is_left : ℕ → Mark → Marked → Bool
+is_left deadline mark x = not x.given && x.deadline == deadline && same_mark x.mark mark
+
+abbrev pub handles : ℕ → Mark → Todo → Bool
+handles deadline mark (Todo.handle d m) = d == deadline && same_mark m mark
+handles deadline mark _ = false
+
+pub data IsToCome (f : Fine) (deadline : ℕ) (mark : Mark) : Type 0 where
+  waits : list_any (is_left deadline mark) (clock f).marks ≡ true → IsToCome f deadline mark
+  held : (k : ℕ) → k < f.cpus → list_any (handles deadline mark) (f.processors k).todo ≡ true → IsToCome f deadline mark
+
+-- A thread that waits with a deadline has a mark of that deadline and of its cell. The deadline of who waits is that of its call.
+pub record TimeoutComes (f : Fine) (m : State) (t : ℕ) : Type 0 where
+  pub comes : (c d : ℕ) → c < ROWS + 2 → waits_at m t c ≡ true → (thread_at m t).until ≡ Some d → IsToCome f d (Mark.Thread (record { 0 = t }) (cell_site c))
+  pub until : (c : ℕ) → c < ROWS + 2 → waits_at m t c ≡ true → deadline_of t (waiters_in m c) ≡ (thread_at m t).until
+
+-- A timer that runs has a mark of its deadline.
+pub record ExpiryComes (f : Fine) (m : State) (x : ℕ) : Type 0 where
+  pub comes : (d : ℕ) → (object_at m x).contents ≡ Contents.Running d → IsToCome f d (Mark.Timer (to_row x))
+
+-- the list of a processor with a mark in its hand: it handles the mark, wakes, and pays
+abbrev pub IsHand : Todos → Type 0
+IsHand [] = ⊥
+IsHand (Todo.handle deadline mark ∷ todo) = todo ≡ Todo.paid ∷ []
+IsHand (Todo.wake who told ∷ todo) = IsHand todo
+IsHand (Todo.paid ∷ todo) = todo ≡ []
+IsHand (q ∷ todo) = ⊥
+
+-- The thread by which a processor makes the events of time was started. The list of one with a mark in its hand is that of the mark.
+pub record TimerIs (f : Fine) (m : State) (k : ℕ) : Type 0 where
+  pub actor : IsTrue (is_started (thread_at m (actor_or f.image (f.processors k).actor)).life)
+  pub hand : times (f.processors k).todo ≡ true → IsHand (f.processors k).todo
