@@ -8,7 +8,7 @@ use Rattle.um_machine.specs.Order.{Steps}
 use Rattle.um_fine.specs.Addresses.{row_named}
 use Rattle.um_fine.specs.Context.{Context}
 use Rattle.um_words.specs.declared.fine.Mark.{Mark}
-use Rattle.um_fine.specs.Places.{Todo, Todos, on_memory}
+use Rattle.um_fine.specs.Places.{Todo, Todos, noted_cell, on_memory}
 use Rattle.um_refinement.specs.Lists.{edits_step, is_arm, queue_in}
 
 -- the events for which the thread is held and its domain claimed
@@ -30,6 +30,13 @@ pub data IsWaitOver : Todos → Type 0 where
   settled : {deadline : ℕ} {mark : Mark} → IsWaitOver (Todo.settle deadline mark ∷ [])
   rereads : {site : ℕ} → IsWaitOver (Todo.reread site ∷ [])
   both : {deadline : ℕ} {mark : Mark} {site : ℕ} → IsWaitOver (Todo.settle deadline mark ∷ Todo.reread site ∷ [])
+
+-- what stands behind an act that may wait: the end of its access, and that its mark is settled
+pub data IsActOver : Todos → Type 0 where
+  act_alone : IsActOver []
+  act_settled : {deadline : ℕ} {mark : Mark} → IsActOver (Todo.settle deadline mark ∷ [])
+  access_alone : IsActOver (Todo.read_done None ∷ Todo.let_go ∷ [])
+  access_settled : {deadline : ℕ} {mark : Mark} → IsActOver (Todo.read_done None ∷ Todo.let_go ∷ Todo.settle deadline mark ∷ [])
 
 -- the end of an access
 abbrev pub access_over : Todos → Todos
@@ -53,6 +60,7 @@ IsMove d todo = (who : ThreadIx) × (rest : Steps) × (todo ≡ Todo.show (Pendi
 
 -- what follows a step
 abbrev pub Behind : Image → Todo → Todos → Type 0
+Behind image (Todo.show q rest) todo = (site : ℕ) → noted_cell image (q ∷ []) ≡ Some site → IsActOver todo
 Behind image Todo.hold todo =
     ((access : Todos) × (todo ≡ Todo.read_claim None ∷ Todo.region_load ∷ access) × IsAccess access)
     ⊎ ((who : ℕ) × (start : Todos) × (todo ≡ Todo.unshut who ∷ start) × IsStart start)

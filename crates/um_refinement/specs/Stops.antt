@@ -1,6 +1,6 @@
 -- Who is aborted, suspended or joined: notes, cuts, sleepers, and indices that nobody joins.
-use Rattle.std.specs.Prelude.{◌≡◌, ◌≢◌, ◌⊎◌, ℕ, ◌+◌, ◌<◌, ◌≤◌, Bool, true, false, ◌==◌, ◌&&◌, nat_lt, if◌then◌else◌, List, [], ◌∷◌, Option, Some, None, is_some, slice_index_or, length}
-use Rattle.std.specs.List.{list_any}
+use Rattle.std.specs.Prelude.{◌≡◌, ◌≢◌, ◌⊎◌, ℕ, ◌+◌, ◌<◌, ◌≤◌, Bool, true, false, ◌==◌, ◌&&◌, nat_lt, if◌then◌else◌, List, [], ◌∷◌, Option, Some, None, is_some, slice_index_or, length, ◌||◌, nat_le}
+use Rattle.std.specs.List.{list_all, list_any}
 use Rattle.um_base.specs.declared.limits.TheConstants.{FUTEX_CELL, JOIN_CELL, ROWS, THREADS}
 use Rattle.um_base.specs.Places.{own_row}
 use Rattle.um_machine.specs.declared.pending.Pending.{Pending}
@@ -21,6 +21,10 @@ use Rattle.um_refinement.specs.Threads.{cutters, told_by}
 -- the site of a cell in which threads wait: of an object's row, of the joins, of the futexes
 abbrev pub cell_site : ℕ → ℕ
 cell_site c = if c == JOIN_CELL then 308 else if c == FUTEX_CELL then 304 else 168 + c
+
+-- whether a site is that of a cell in which threads wait
+abbrev pub is_waiting_site : ℕ → Bool
+is_waiting_site site = (site == 308) || (site == 304) || (nat_le 168 site && nat_lt site 296)
 
 -- a thread waits in a cell
 abbrev pub waits_at : State → ℕ → ℕ → Bool
@@ -56,11 +60,12 @@ pub data LiesAt (f : Fine) (t : ℕ) : Context → Type 0 where
   parked : (c : Context) → parked_at (scheduler f) t ≡ Some c → LiesAt f t c
   asleep : (c : Context) → asleep_at (joins f) t ≡ Some c → LiesAt f t c
 
--- The word of a thread has a note exactly while its own part has the number of one; that number is one of the word's. A thread that
--- waits is noted at its cell, which keeps that number. One at rest has no note.
+-- The word of a thread has a note exactly while its own part has the number of one; that number is one of the word's, and the site that of a
+-- cell in which threads wait. A thread that waits is noted at its cell, which keeps that number. One at rest has no note.
 pub record NoteIs (f : Fine) (m : State) (t : ℕ) : Type 0 where
   pub there : (c : Context) → LiesAt f t c → is_some (word f t).note ≡ is_some c.noted
   pub number : (c : Context) (n : ℕ) → LiesAt f t c → c.noted ≡ Some n → n ≤ (word f t).number
+  pub cell : (site : ℕ) → (word f t).note ≡ Some site → is_waiting_site site ≡ true
   pub waits : (c : ℕ) → c < ROWS + 2 → waits_at m t c ≡ true → (word f t).note ≡ Some (cell_site c)
   pub kept : (x : ℕ) (c : Context) → x < ROWS + 2 → waits_at m t x ≡ true → LiesAt f t c → c.noted ≡ Some (noted_at f x t)
   pub rest : (thread_at m t).pending ≡ [] → (word f t).note ≡ None
@@ -86,6 +91,19 @@ abbrev pub Looking : Todos → ℕ → ℕ → ℕ → Type 0
 Looking [] t site before = ⊥
 Looking (Todo.look who there older ∷ todo) t site before = ((who ≡ t) × (there ≡ site) × (older ≡ before)) ⊎ Looking todo t site before
 Looking (q ∷ todo) t site before = Looking todo t site before
+
+-- a step on a list that looks, or may look next, in the cell of a site
+abbrev pub looks_in : Todo → Option ℕ
+looks_in (Todo.look who site before) = Some site
+looks_in (Todo.reread site) = Some site
+looks_in _ = None
+
+abbrev pub looks_well : Todo → Bool
+looks_well q = elim (looks_in q) as (λ _. Bool) [ None ↦ true | Some site ↦ is_waiting_site site ]
+
+-- Looks are made in cells in which threads wait.
+abbrev pub LookThere : Fine → ℕ → Type 0
+LookThere f k = list_all looks_well (f.processors k).todo ≡ true
 
 -- A look is for a step of the word that was made. Where the call of a thread has an older note, that thread is aborted: so who a look
 -- finds is aborted, and none of a later life is found.

@@ -12,7 +12,7 @@ use Rattle.um_fine.specs.Processor.{actor_or}
 use Rattle.um_fine.specs.Seeking.{deadline_of}
 use Rattle.um_refinement.specs.Fine.{Fine, clock, one_if, over_processors, scheduler}
 use Rattle.um_refinement.specs.Lists.{counted, is_arm, times}
-use Rattle.um_refinement.specs.Stops.{cell_site, waits_at}
+use Rattle.um_refinement.specs.Stops.{cell_site, is_waiting_site, waits_at}
 
 -- The clock has the machine's time and deadlines.
 pub record ClockIs (f : Fine) (m : State) : Type 0 where
@@ -50,12 +50,19 @@ settles deadline mark _ = false
 abbrev pub is_sound : ℕ → Marked → Bool
 is_sound now x = not x.given || (x.settled && nat_le x.deadline now)
 
+-- a thread's mark is for a cell in which threads wait
+abbrev pub is_placed : Mark → Bool
+is_placed (Mark.Thread who site) = is_waiting_site site
+is_placed (Mark.Timer x) = true
+
 -- Each mark that isn't settled is one that a processor is to settle. One that was given is settled, and its deadline has come; so it has of
 -- one in a hand.
 pub record MarksAre (f : Fine) : Type 0 where
   pub unsettled : (deadline : ℕ) (mark : Mark) → open_marks deadline mark (clock f).marks ≡ over_processors f (λ p. counted (settles deadline mark) p.todo)
   pub given : IsTrue (list_all (is_sound (clock f).now) (clock f).marks)
-  pub hands : (k deadline : ℕ) (mark : Mark) (todo : Todos) → k < f.cpus → (f.processors k).todo ≡ Todo.handle deadline mark ∷ todo → deadline ≤ (clock f).now
+  pub hands : (k deadline : ℕ) (mark : Mark) (todo : Todos) → k < f.cpus → (f.processors k).todo ≡ Todo.handle deadline mark ∷ todo
+      → (deadline ≤ (clock f).now) × (is_placed mark ≡ true)
+  pub placed : list_all (λ (x : Marked). is_placed x.mark) (clock f).marks ≡ true
 
 -- a mark that is still to be handled: the clock has it and hasn't given it, or it is in a hand
 abbrev pub is_left : ℕ → Mark → Marked → Bool
