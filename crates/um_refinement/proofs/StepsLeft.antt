@@ -1,5 +1,5 @@
 -- A thread that has a step of its own left isn't over: one that is offered, that visits rows, or that starts another one next.
-use Rattle.um_refinement.proofs.Words.{◌≡◌, ℕ, Bool, true, false, ◌∷◌, refl, ap, ◌∙◌, ◌&&◌, nat_lt, list_all, Image, ROWS, Pending, Steps, is_empty, State, Context, Todos, Drops, IsOffered, Passes, is_over, IsRun, and-false, subst, ThreadIx, Thread, Policy, [], ◌==◌, if◌then◌else◌, end_steps, fatal_steps}
+use Rattle.um_refinement.proofs.Words.{◌≡◌, ℕ, Bool, true, false, ◌∷◌, refl, ap, ◌∙◌, ◌&&◌, nat_lt, list_all, Image, ROWS, Pending, Steps, is_empty, State, Context, Fine, Todos, Drops, IsOffered, Passes, is_over, IsRun, and-false, subst, ThreadIx, Thread, Policy, [], ◌==◌, if◌then◌else◌, end_steps, fatal_steps}
 use Rattle.um_refinement.specs.Offers as O
 
 -- it has a step
@@ -40,8 +40,8 @@ pub drops-on : (image : Image) (c : Context) (todo : Todos) → Drops image c to
 drops-on image c todo h = steps-on c (Pending.Drops h.from) (h.step ∷ h.rest) h.pending
 
 -- the rows that a thread's call holds are rows, also of one that is over, which holds none
-pub run-below : (m : State) (c : Context) → IsRun m c → list_all (λ x. nat_lt x ROWS) c.claims ≡ true
-run-below m c is = by (is_over c) refl
+pub run-below : (f : Fine) (m : State) (c : Context) → IsRun f m c → list_all (λ x. nat_lt x ROWS) c.claims ≡ true
+run-below f m c is = by (is_over c) refl
   where
     by : (b : Bool) → is_over c ≡ b → list_all (λ x. nat_lt x ROWS) c.claims ≡ true
     by true e = ap (list_all (λ x. nat_lt x ROWS)) (is.over e)
