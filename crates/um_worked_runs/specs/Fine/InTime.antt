@@ -1,0 +1,147 @@
+-- The relation's parts on time, aborts, sleepers, joins and futexes, tested after each step of a worked run.
+use Rattle.std.specs.Prelude.{ℕ, ◌+◌, Bool, true, false, ◌==◌, ◌&&◌, ◌||◌, not, nat_le, nat_lt, List, [], ◌∷◌, ◌++◌, length, Option, Some, None, is_some, slice_index_or, if◌then◌else◌}
+use Rattle.std.specs.List.{list_all, list_any}
+use Rattle.um_base.specs.declared.ask.Waiter.{Waiter}
+use Rattle.um_base.specs.declared.image.Image.{Image}
+use Rattle.um_base.specs.declared.limits.TheConstants.{FUTEX_CELL, JOIN_CELL, THREADS}
+use Rattle.um_base.specs.Places.{own_row}
+use Rattle.um_machine.specs.declared.contents.Contents.{Contents}
+use Rattle.um_machine.specs.declared.pending.Pending.{Pending}
+use Rattle.um_machine.specs.declared.thread.Life.{Life}
+use Rattle.um_machine.specs.State.{State, is_started, object_at, thread_at, waiters_in}
+use Rattle.um_machine.specs.Order.{Steps, to_row, to_thread}
+use Rattle.um_words.specs.declared.fine.Mark.{Mark}
+use Rattle.um_fine.specs.Clock.{Marked, deadlines}
+use Rattle.um_fine.specs.Context.{Context}
+use Rattle.um_fine.specs.Joins.{asleep_at, is_joined, is_shut}
+use Rattle.um_fine.specs.Places.{Todo, Todos, is_paid}
+use Rattle.um_fine.specs.Processor.{Processor, actor_or}
+use Rattle.um_fine.specs.Scheduler.{is_cut, parked_at, told_at, waits}
+use Rattle.um_fine.specs.Seeking.{deadline_of}
+use Rattle.um_refinement.specs.Fine.{Fine, bytes, clock, joins, one_if, over_processors, scheduler, word}
+use Rattle.um_refinement.specs.Lists.{counted, runs, runs_thread, times}
+use Rattle.um_refinement.specs.Offers.{is_over}
+use Rattle.um_refinement.specs.Threads.{cutters, is_ready_there, occurs, places, runs_on, tellers, told_by}
+use Rattle.um_refinement.specs.Stops.{cell_site, clears_own, is_look, is_reread, is_reread_asleep, is_rouse, is_waiting_site, looks_well, noted_at, starts, waits_at}
+use Rattle.um_refinement.specs.Timing.{arms, handles, is_left, is_placed, is_sound, left_marks, open_marks, settles}
+use Rattle.um_worked_runs.specs.Evaluate.{numbers}
+use Rattle.um_worked_runs.specs.Fine.Compared.{Tested, implies, same_bool, same_numbers, same_option, same_waiters}
+
+abbrev pub lives : Life → Bool
+lives Life.Living = true
+lives _ = false
+
+abbrev pub has_none : Steps → Bool
+has_none [] = true
+has_none _ = false
+
+abbrev pub is_to_kill : Steps → Bool
+is_to_kill (Pending.Killed ∷ []) = true
+is_to_kill _ = false
+
+-- the cells in which threads wait
+abbrev pub cells : Tested → List ℕ
+cells n = n.rows ++ JOIN_CELL ∷ FUTEX_CELL ∷ []
+
+-- the list of a processor with a mark in its hand
+abbrev pub is_hand : Todos → Bool
+is_hand (Todo.handle deadline mark ∷ Todo.paid ∷ []) = true
+is_hand (Todo.wake who told ∷ todo) = is_hand todo
+is_hand (Todo.paid ∷ []) = true
+is_hand _ = false
+
+module _ (n : Tested) (f : Fine) (m : State) where
+  abbrev pub cpus : List ℕ
+  cpus = numbers 0 n.cpus
+
+  abbrev pub some_list : (Processor → Bool) → Bool
+  some_list test = list_any (λ k. test (f.processors k)) cpus
+
+  -- the own part of a thread, wherever it lies
+  abbrev pub fits_note : ℕ → Context → Bool
+  fits_note t c =
+      same_bool (is_some (word f t).note) (is_some c.noted)
+      && elim c.noted as (λ _. Bool) [ None ↦ true | Some number ↦ nat_le number (word f t).number ]
+
+  abbrev pub fits_if : ℕ → Option Context → Bool
+  fits_if t None = true
+  fits_if t (Some c) = fits_note t c && c.thread == t
+
+  abbrev pub note_is : ℕ → Bool
+  note_is t =
+      let v = word f t in
+      fits_if t (parked_at (scheduler f) t) && fits_if t (asleep_at (joins f) t)
+      && list_all (λ k. implies (runs_on t (f.processors k)) (fits_note t (f.processors k).context)) cpus
+      && list_all (λ c. implies (waits_at m t c) (same_option v.note (Some (cell_site c)))) (cells n)
+      && implies (has_none (thread_at m t).pending) (not (is_some v.note))
+      && elim v.note as (λ _. Bool) [ None ↦ true | Some site ↦ is_waiting_site site ]
+
+  abbrev pub cut_is : ℕ → Bool
+  cut_is t =
+      let count = cutters f t in
+      nat_le count 1
+      && implies (nat_lt 0 count) (is_to_kill (thread_at m t).pending && not (is_some (told_by f t n.cpus)))
+      && implies (is_to_kill (thread_at m t).pending) (word f t).aborted
+
+  abbrev pub cut_comes : ℕ → ℕ → Bool
+  cut_comes t c =
+      implies ((word f t).aborted && waits_at m t c)
+      (some_list (λ p. list_any (is_look t (cell_site c) (noted_at f c t)) p.todo || (runs_thread t p && list_any (is_reread (cell_site c)) p.todo)))
+
+  abbrev pub sleep_is : ℕ → Bool
+  sleep_is t =
+      let v = word f t in
+      implies (is_some (asleep_at (joins f) t))
+      ((v.suspended && not v.aborted) || some_list (λ p. list_any (is_rouse t) p.todo || (p.context.thread == t && list_any is_reread_asleep p.todo)))
+
+  abbrev pub shut_is : ℕ → Bool
+  shut_is t =
+      let shut = is_shut (joins f) t in
+      implies shut (not (lives (thread_at m t).life) && not (is_joined (joins f) t))
+      && implies (not shut) (object_at m (own_row f.image t)).init
+      && implies (some_list (λ p. runs_thread t p && clears_own f p p.todo)) shut
+      && implies (some_list (λ p. same_option (starts p.todo) (Some t))) (not shut)
+
+  abbrev pub comes : ℕ → Mark → Bool
+  comes deadline mark = list_any (is_left deadline mark) (clock f).marks || some_list (λ p. list_any (handles deadline mark) p.todo)
+
+  abbrev pub timeout_comes : ℕ → ℕ → Bool
+  timeout_comes t c =
+      implies (waits_at m t c)
+      (same_option (deadline_of t (waiters_in m c)) (thread_at m t).until
+      && elim (thread_at m t).until as (λ _. Bool) [ None ↦ true | Some d ↦ comes d (Mark.Thread (to_thread t) (cell_site c)) ])
+
+  abbrev pub runs_out : ℕ → Contents → Bool
+  runs_out x (Contents.Running d) = comes d (Mark.Timer (to_row x))
+  runs_out x contents = true
+
+  abbrev pub in_time : ℕ → Bool
+  in_time t =
+      let v = word f t in
+      let me = thread_at m t in
+      same_bool v.aborted me.aborted && same_bool v.suspended me.suspended
+      && note_is t && cut_is t && sleep_is t && shut_is t
+      && list_all (cut_comes t) (cells n) && list_all (timeout_comes t) (cells n)
+
+  abbrev pub cell_is : ℕ → Bool
+  cell_is c = runs_out c (object_at m c).contents
+
+  abbrev pub mark_is : Marked → Bool
+  mark_is x =
+      is_sound (clock f).now x && is_placed x.mark
+      && open_marks x.deadline x.mark (clock f).marks == over_processors f (λ p. counted (settles x.deadline x.mark) p.todo)
+
+  abbrev pub times_rightly : ℕ → Bool
+  times_rightly k =
+      let p = f.processors k in
+      is_started (thread_at m (actor_or f.image p.actor)).life && implies (times p.todo) (is_hand p.todo)
+      && list_all looks_well p.todo
+
+  abbrev pub is_in_time : Bool
+  is_in_time =
+      list_all in_time n.threads && list_all cell_is (cells n) && list_all times_rightly cpus
+      && list_all mark_is (clock f).marks
+      && (clock f).now == m.now && same_numbers (deadlines (clock f).marks) m.armed
+      && (scheduler f).owed == over_processors f (λ p. one_if (arms p.todo) + counted is_paid p.todo) + left_marks (clock f).marks
+      && same_waiters (joins f).waiters m.joins && same_waiters (bytes f).futexes m.futexes
+      && length (scheduler f).cuts == THREADS && length (joins f).shut == THREADS && length (joins f).asleep == THREADS
