@@ -116,7 +116,7 @@ wake_act_text image (Act.FutexWait addr number answer) =
     codes "futex wait " ++ address addr.0 ++ codes " " ++ value number ++ codes " " ++ answer_text image answer
 wake_act_text image (Act.FutexWake addr answer woken) =
     codes "futex wake " ++ address addr.0 ++ codes " " ++ answer_text image answer ++ flat_map (wake_text image) woken
-wake_act_text image act = wake_act_text image act
+wake_act_text image act = object_act_text image act
 
 -- acts on memory, and the others
 unfoldable pub act_text : Image → Act → List ℕ
@@ -129,7 +129,7 @@ act_text image (Act.CopyIn addr size fits) = codes "copyin " ++ range_text addr.
 act_text image (Act.CopyOut addr size fits) = codes "copyout " ++ range_text addr.0 size ++ codes " " ++ reach_word fits
 act_text image (Act.CopyStr addr found) = codes "copystr " ++ address addr.0 ++ codes " " ++ found_text found
 act_text image (Act.Erase stack) = codes "erase " ++ row_text image stack.0
-act_text image act = object_act_text image act
+act_text image act = wake_act_text image act
 
 -- the line of an event: the acting thread and what it does
 unfoldable pub event_line : Image → Event → List ℕ
