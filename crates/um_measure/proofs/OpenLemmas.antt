@@ -19,7 +19,7 @@ use Rattle.um_machine.specs.declared.object.Object.{Object}
 use Rattle.um_machine.specs.Memory.{with_bytes}
 use Rattle.um_machine.specs.Run.{blank, booted, booted_one, boot_thread, granted, index_or, loaded, objects_from, setup_contents, opening}
 use Rattle.um_machine.specs.State.{State, nobody, vacant, thread_at, with_thread, with_pair, first_place}
-use Rattle.um_measure.specs.Measure.{total, one_if, is_running, time_of, flags_set, lines_left, thread_cost, object_cost, store_cost, measure}
+use Rattle.um_measure.specs.Measure.{total, one_if, is_running, time_of, flags_set, lines_left, thread_cost, object_cost, store_cost, measure, armings}
 use Rattle.um_measure.specs.Reached.{AreSized, IsSound, IsReached}
 use Rattle.um_measure.proofs.TotalLemmas.{total-set}
 use Rattle.um_measure.proofs.EasedLemmas.{cost-nobody, sound-set}
@@ -220,3 +220,34 @@ opens image lawful few =
     let o = boots-all image lawful few image.boots lawful.boots 0 (loaded image.partitions (blank image)) (loads-all image 0 image.partitions (blank image) (blank-opens image)) in
     let cost = o.cost in
     (record { lawful = rw o.image_is lawful; sized = o.sized; sound = rw o.image_is o.sound }, rw o.image_is (omega (arith, cost)))
+
+-- Deadlines: none is armed at the opening.
+
+armed-granted : (t : ℕ) (rows : List Row) (s : State) → (granted t rows s).armed ≡ s.armed
+armed-granted t [] s = refl
+armed-granted t (x ∷ rows) s = armed-granted t rows (with_pair s t x.0 true)
+
+armed-booted : (boots : List Boot) (s : State) → (booted boots s).armed ≡ s.armed
+armed-booted [] s = refl
+armed-booted (boot ∷ boots) s =
+    let t = index_or (thread_of_row s.image boot.thread.0) in
+    armed-booted boots (booted_one boot s) ∙ armed-granted t (boot.thread ∷ boot.grants) (with_thread s t (boot_thread s.image boot))
+
+armed-if : (s : State) (memory stacks : List ℕ) (b : Bool) → (if b then record s { memory = memory } else record s { stacks = stacks }).armed ≡ s.armed
+armed-if s memory stacks true = refl
+armed-if s memory stacks false = refl
+
+armed-loaded : (ps : List Partition) (s : State) → (loaded ps s).armed ≡ s.armed
+armed-loaded [] s = refl
+armed-loaded (p ∷ ps) s = armed-loaded ps (with_bytes s p.range.start.0 p.bytes) ∙ armed-if s _ _ (nat_lt p.range.start.0 STACK_AREA)
+
+armed-blank : (image : Image) → (blank image).armed ≡ []
+unfolding blank
+armed-blank image = refl
+
+armed-none : (image : Image) → (opening image).armed ≡ []
+armed-none image = armed-booted image.boots (loaded image.partitions (blank image)) ∙ armed-loaded image.partitions (blank image) ∙ armed-blank image
+
+pub opens-armings : (image : Image) → IsLawful image → length image.objects ≤ STATIC_ROWS → armings (opening image) ≤ weight image
+unfolding measure armings
+opens-armings image lawful few = let most = (opens image lawful few).1 in rw (armed-none image) (omega (arith, most))

@@ -1,5 +1,5 @@
 -- Each step of the machine keeps what the states of a run have in common, and lowers their measure.
-use Rattle.std.proofs.Common.{◌≡◌, ◌<◌, ℕ, true, [], ◌∷◌, length, refl, sym, subst, arith, Option, Some}
+use Rattle.std.proofs.Common.{◌≡◌, ◌<◌, ◌≤◌, ℕ, true, [], ◌∷◌, length, refl, sym, subst, arith, Option, Some}
 use Rattle.std.specs.List.{list_all}
 use Rattle.std.proofs.lemmas.Bool.{and_parts, false≢true}
 use Rattle.um_base.specs.declared.act.Event.{Event}
@@ -20,7 +20,7 @@ use Rattle.um_base.specs.declared.names.Reply.{Reply}
 use Rattle.um_invariants.proofs.Turns.{even-if, even-text}
 use Rattle.um_measure.proofs.GoesLemmas.{checked-most, access-most, copied-most, even-most, set-most, reserve-most, told-none, step-made, went-made}
 use Rattle.um_measure.proofs.WriteLemmas.{base-self}
-use Rattle.um_measure.specs.Measure.{measure}
+use Rattle.um_measure.specs.Measure.{measure, armings}
 use Rattle.um_measure.specs.Reached.{may_wait, passes_on, is_child, IsReached}
 use Rattle.um_measure.proofs.PassLemmas.{drop_pair, own, inherit}
 use Rattle.um_measure.proofs.LifeLemmas.{exit, stop, killed, fatal, begin, enter, dooms, drops}
@@ -156,3 +156,7 @@ keeps s s2 event reached made =
 -- a step that is due lowers the measure
 pub falls : (s s2 : State) (event : Event) → IsReached s → (made : Step s event s2) → ChoosesDue s event.thread.0 made.step made.row → measure s2 < measure s
 falls s s2 event reached made due = (made-by s s2 event reached made).falls due
+
+-- a step raises no bound on the deadlines
+pub arms : (s s2 : State) (event : Event) → IsReached s → Step s event s2 → armings s2 ≤ armings s
+arms s s2 event reached made = (made-by s s2 event reached made).arms

@@ -55,13 +55,15 @@ module _ (s : State) (reached : IsReached s) (t x : ℕ) (rest : Steps) where
       let less = filter-less (joins t) s.joins joined in
       let store = store-waiters s JOIN_CELL ws in
       let same = store-woken woken s1 in
-      lowers s reached (all_woken woken s1) 0 (base-woken s s1 0 (base-cell s reached JOIN_CELL 0 ws (omega (arith, less))) woken) (omega (arith, less, store, same))
+      let base = base-woken s s1 0 (base-cell s reached JOIN_CELL 0 ws (omega (arith, less))) woken in
+      let armed = base.armed in
+      lowers s reached (all_woken woken s1) 0 base (omega (arith, less, store, same)) (omega (arith, armed))
 
   tick-by : (o : Option ℕ) → next_deadline s.now s.armed ≡ o → is_some o ≡ true → Makes (record s { now = unwrap_or o s.now })
   tick-by None e h = absurd (false≢true h)
   tick-by (Some d) e h =
       let less = (deadline-less s.now d s.armed e).1 in
-      lowers s reached (record s { now = d }) 0 (record { image = refl; eased = all-same s.threads; sized = reached.sized; store = omega (arith, less) }) (omega (arith, less))
+      lowers s reached (record s { now = d }) 0 (record { image = refl; eased = all-same s.threads; sized = reached.sized; store = omega (arith, less); armed = omega arith }) (omega (arith, less)) (omega arith)
 
   pub tick : is_some (next_deadline s.now s.armed) ≡ true → Makes (after s t x Pending.Tick rest)
   tick h = tick-by (next_deadline s.now s.armed) refl h
@@ -87,7 +89,9 @@ module _ (s : State) (reached : IsReached s) (t x : ℕ) (rest : Steps) where
         let told = told_late who x in
         let less = without-less in
         let same = store-woken told Without in
-        lowers s reached (all_woken told Without) 0 (base-woken s Without 0 without-base told) (omega (arith, less, same))
+        let base = base-woken s Without 0 without-base told in
+        let armed = base.armed in
+        lowers s reached (all_woken told Without) 0 base (omega (arith, less, same)) (omega (arith, armed))
 
     pub cut : is_to_resume (thread_at s who.0).pending ≡ true → Makes (after s t x (Pending.Cut who) rest)
     cut resumes =
@@ -98,7 +102,7 @@ module _ (s : State) (reached : IsReached s) (t x : ℕ) (rest : Steps) where
         let behind = cost-pending s.image (cut_short me) Pending.Killed [] refl in
         let sound = reached.sound who.0 in
         let living = living-life me.life (and_parts (may_wait me.life Pending.Resume) _ (subst (λ (steps : Steps). list_all (may_wait me.life) steps ≡ true) are sound.waits)).0 in
-        writes s reached who.0 Without 0 without-base (cut_short me) (Unit {0}) (record { place = sound.place; waits = rw living refl; passes = refl }) (λ due. omega (arith, less, before, behind))
+        writes s reached who.0 Without 0 without-base (cut_short me) (Unit {0}) (record { place = sound.place; waits = rw living refl; passes = refl }) (λ due. omega (arith, less, before, behind)) (omega (arith, before, behind))
 
   pub expire : has_run_out s.now (object_at s x).contents ≡ true → Makes (after s t x Pending.Expire rest)
   expire h =
@@ -112,5 +116,7 @@ module _ (s : State) (reached : IsReached s) (t x : ℕ) (rest : Steps) where
       let still = stopped.1 in
       let ran = was-running s.now (object_at s x).contents h in
       let same = store-woken out.2 s1 in
-      let base : IsBase s s1 0 = record { image = refl; eased = all-same s.threads; sized = reached.sized; store = omega (arith, set, few, still) } in
-      lowers s reached (all_woken out.2 s1) 0 (base-woken s s1 0 base out.2) (omega (arith, set, few, still, ran, same))
+      let base : IsBase s s1 0 = record { image = refl; eased = all-same s.threads; sized = reached.sized; store = omega (arith, set, few, still); armed = omega arith } in
+      let woken = base-woken s s1 0 base out.2 in
+      let armed = woken.armed in
+      lowers s reached (all_woken out.2 s1) 0 woken (omega (arith, set, few, still, ran, same)) (omega (arith, armed))

@@ -50,7 +50,7 @@ waiters-few contents ws who ask = let a = acted_by contents ws who ask in outcom
 -- those who wait in a cell are written, and are at most so many more
 pub base-cell : (s : State) → IsReached s → (c n : ℕ) (ws : List Waiter) → length ws ≤ length (waiters_in s c) + n → IsBase s (with_waiters s c ws) n
 base-cell s reached c n ws few =
-    let store = store-waiters s c ws in record { image = refl; eased = all-same s.threads; sized = reached.sized; store = omega (arith, store, few) }
+    let store = store-waiters s c ws in record { image = refl; eased = all-same s.threads; sized = reached.sized; store = omega (arith, store, few); armed = omega arith }
 
 abbrev asks_in : State → ℕ → ℕ → Ask → Answer → State
 asks_in s t c ask answer = write (only (says_wait answer) (Effect.waiters c (queued s t c ask))) s
@@ -78,7 +78,7 @@ module _ (s : State) (reached : IsReached s) (t x : ℕ) (rest : Steps) where
       let set = store-set s.pairs s.objects y o in
       let few = waiters-few (object_at s y).contents (object_at s y).waiters (record { thread = to_thread t; priority = me.priority; ask = ask; bytes = bytes_given me.buffer ask; until = me.until }) ask in
       let most = one-if-most (is_running w.contents) in
-      let base : IsBase s (with_object s y o) 2 = record { image = refl; eased = all-same s.threads; sized = reached.sized; store = omega (arith, set, few, most) } in
+      let base : IsBase s (with_object s y o) 2 = record { image = refl; eased = all-same s.threads; sized = reached.sized; store = omega (arith, set, few, most); armed = omega arith } in
       went-made s reached t (Pending.Work a ask) rest ready _ 2 (base-woken s (with_object s y o) 2 base w.woken) (next_of s t x (Pending.Work a ask)) refl (λ h. refl)
       (let even = even-most _ (even-work me.mode ask w.answer) in omega (arith, even)) ready.passes
 

@@ -128,3 +128,8 @@ store_cost pairs objects = 2 * total flags_set pairs + total object_cost objects
 -- a bound on the events that can still come, as long as each inheritance is of a row that is due
 unfoldable pub measure : State → ℕ
 measure s = total (thread_cost s.image) s.threads + store_cost s.pairs s.objects + time_of s
+
+-- a bound on the deadlines of a run: those that were armed, and what the threads have still to do, which pays for each that is to come. No step
+-- raises it
+unfoldable pub armings : State → ℕ
+armings s = length s.armed + total (thread_cost s.image) s.threads
