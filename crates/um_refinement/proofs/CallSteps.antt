@@ -2,7 +2,9 @@
 -- mark as initialised, a thread that gets a permission or a name is one whose object it holds, or a static one, permissions are passed on to the
 -- thread that it starts next, each edit and each move is of one of the image's domains, and where the call is over it holds nothing. The steps
 -- of each line of a lawful image are.
-use Rattle.um_refinement.proofs.Words.{◌≡◌, ◌⊎◌, inl, inr, ℕ, zero, suc, ◌+◌, ◌*◌, ◌<◌, Bool, true, false, List, [], ◌∷◌, ◌++◌, length, Option, Some, None, refl, sym, ap, ◌∙◌, subst, arith, ◌==◌, ◌&&◌, ◌||◌, ℤ, if◌then◌else◌, is_some, nat_lt, slice_get, slice_index_or, slice_set, unwrap_or, list_all, and_parts, false≢true, ltb-true, Cause, Ask, Image, Instr, Options, Errno, Kind, Mode, ThreadIx, IsLawful, is_lawful_line, is_within, own_row, row_at, thread_of_addr, Pending, Thread, Steps, answer_error, answer_zero, buffered, creates, privileged, steps_of, to_addr, work, instruction_at, value_of, IsRow, IsSited, IsStatic, are_lawful_scripts, is_lawful_script, is_number_below, number_of, lines_of, script_lines, Names, keeps}
+use Rattle.um_base.specs.declared.names.Timeout.{Timeout}
+use Rattle.um_machine.specs.Order.{aborts, answer_void, arms}
+use Rattle.um_refinement.proofs.Words.{◌≡◌, ◌⊎◌, inl, inr, ℕ, zero, suc, ◌+◌, ◌*◌, ◌<◌, Bool, true, false, List, [], ◌∷◌, ◌++◌, length, Option, Some, None, refl, sym, ap, ◌∙◌, subst, arith, ◌==◌, ◌&&◌, ◌||◌, ℤ, if◌then◌else◌, is_some, nat_lt, slice_get, slice_index_or, slice_set, unwrap_or, list_all, and_parts, false≢true, ltb-true, Cause, Ask, Image, Instr, Options, Errno, Kind, Mode, ThreadIx, IsLawful, is_lawful_line, is_within, own_row, row_at, thread_of_addr, Pending, Thread, Steps, answer_error, answer_zero, buffered, creates, privileged, steps_of, to_addr, to_thread, work, instruction_at, value_of, IsRow, IsSited, IsStatic, are_lawful_scripts, is_lawful_script, is_number_below, number_of, lines_of, script_lines, Names, keeps}
 use Rattle.um_base.specs.declared.image.Script.{Script}
 use Rattle.um_base.specs.declared.names.Ref.{Ref}
 use Rattle.um_machine.specs.declared.thread.Place.{Place}
@@ -23,6 +25,12 @@ module _ (image : Image) where
   Proper checked (Pending.Exit ∷ rest) = ⊥
   Proper checked (Pending.CleanPair who ∷ rest) = ⊥
   Proper checked (Pending.Recycle ∷ rest) = ⊥
+  Proper checked (Pending.Left ∷ rest) = ⊥
+  Proper checked (Pending.Tick ∷ rest) = ⊥
+  Proper checked (Pending.TimeOut who ∷ rest) = ⊥
+  Proper checked (Pending.Expire ∷ rest) = ⊥
+  Proper checked (Pending.Cut who ∷ rest) = ⊥
+  Proper checked (Pending.Killed ∷ rest) = Unit {0}
   Proper checked (Pending.Check a kind want refusal ∷ rest) =
       (x : ℕ) → row_at image a.0 ≡ Some x → slice_index_or (slice_set checked x true) x false ≡ true → Proper (slice_set checked x true) rest
   Proper checked (Pending.Work a ask ∷ rest) = Names image checked a.0 × Proper checked rest
@@ -53,6 +61,16 @@ module _ (image : Image) (checked : List Bool) where
       → Proper image checked (if refused then answer_error Errno.EINVAL else work a ask ∷ Pending.SetInit (to_addr a) false None ∷ answer_zero)
   proper-init a x e h ask true = refl
   proper-init a x e h ask false = ((x, e, h), ((x, e, h), refl))
+
+  -- a deadline is armed first, or none
+  proper-arms : (timeout : Timeout) (steps : Steps) → Proper image checked steps → Proper image checked (arms timeout steps)
+  proper-arms Timeout.NoWait steps h = h
+  proper-arms (Timeout.Ticks ticks) steps h = h
+  proper-arms Timeout.Forever steps h = h
+
+  proper-aborts : (t who : ℕ) → Proper image checked (aborts t who)
+  proper-aborts t who =
+      elim (who == t) as (λ b. Proper image checked (Pending.Abort (to_thread who) ∷ (if b then Pending.Killed ∷ [] else answer_void))) [ true ↦ tt | false ↦ refl ]
 
   proper-inherit : (inherits : Bool) (who : ThreadIx) (rest : Steps) → StartsOne who rest → Proper image checked rest
       → Proper image checked ((if inherits then Pending.Inherit who ∷ [] else []) ++ rest)
@@ -126,6 +144,19 @@ module _ (image : Image) (sited : IsSited image) (t : ℕ) (me : Thread) (none :
   proper-steps i (Instr.PipeInit object size) lawful =
       let most = value_of me.registers size in
       proper-buffered image me.checked (value_of me.registers object) Kind.Pipe (is_within 1 256 most) most (Ask.PipeInit most (unwrap_or me.pool 0))
+  proper-steps i (Instr.SemTake object timeout) lawful = λ x e h. proper-arms image (slice_set me.checked x true) timeout _ ((x, e, h), refl)
+  proper-steps i (Instr.MutexLock object timeout) lawful = λ x e h. proper-arms image (slice_set me.checked x true) timeout _ ((x, e, h), refl)
+  proper-steps i (Instr.MsgqPut object addr timeout) lawful = λ x e h. proper-arms image (slice_set me.checked x true) timeout _ ((x, e, h), refl)
+  proper-steps i (Instr.MsgqGet object addr timeout) lawful = λ x e h. proper-arms image (slice_set me.checked x true) timeout _ ((x, e, h), refl)
+  proper-steps i (Instr.StackPop object addr timeout) lawful = λ x e h. proper-arms image (slice_set me.checked x true) timeout _ ((x, e, h), refl)
+  proper-steps i (Instr.PipeWrite object addr length timeout) lawful = λ x e h. proper-arms image (slice_set me.checked x true) timeout _ ((x, e, h), refl)
+  proper-steps i (Instr.PipeRead object addr length timeout) lawful = λ x e h. proper-arms image (slice_set me.checked x true) timeout _ ((x, e, h), refl)
+  proper-steps i (Instr.Abort thread) lawful = λ x e h. proper-aborts image (slice_set me.checked x true) t _
+  proper-steps i (Instr.Join thread timeout) lawful = λ x e h. proper-arms image (slice_set me.checked x true) timeout _ refl
+  proper-steps i (Instr.Suspend thread) lawful = λ x e h. refl
+  proper-steps i (Instr.Continue thread) lawful = λ x e h. refl
+  proper-steps i (Instr.FutexWait addr value timeout) lawful = proper-arms image me.checked timeout _ refl
+  proper-steps i (Instr.FutexWake addr all) lawful = refl
   proper-steps i _ lawful = λ x e h. ((x, e, h), refl)
 
 -- Lines of a lawful image.

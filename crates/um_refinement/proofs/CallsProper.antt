@@ -1,5 +1,6 @@
 -- The steps that are left of each thread's call are proper in every state that a run of a described image reaches: each step of the
 -- access-matrix machine keeps that.
+use Rattle.um_machine.specs.Run.{leaves, stops}
 use Rattle.um_refinement.proofs.Words.{◌≡◌, ℕ, ◌+◌, Bool, true, false, List, [], ◌∷◌, length, Option, Some, None, refl, sym, ap, ◌∙◌, subst, arith, if◌then◌else◌, nat_lt, slice_index_or, slice_set, true≢false, get_or-set_same, Event, Image, Instr, ROWS, THREADS, Addr, Errno, Kind, Mode, Policy, Want, IsLawful, is_lawful_line, row_at, Pending, Refusal, Thread, Change, Next, changed, checked_way, gone, steps_by, told_way, verdict, Steps, fatal_steps, steps_of, Offers, Runs, begins, exits, goes, skips_drops, skips_inherit, State, instruction_at, is_living, no_rows, nobody, thread_at, with_thread, Ignores, all_other, each-after, next_of, HoldsOfWays, way-left, Call, at_set, call_is, core_of, IsKnown, below_rows, passed, row_is, IsSited, call_of, none_checked, image_move, known_step, step_move, tends, is_tending, IsTrue, false≢true}
 use Rattle.um_machine.specs.Table as T
 use Rattle.um_refinement.proofs.CallSteps.{Bare, Proper, line-lawful, proper-steps}
@@ -11,6 +12,7 @@ Closing [] = Unit {0}
 Closing (Pending.Drops from ∷ rest) = Closing rest
 Closing (Pending.ClearInit a ∷ rest) = Closing rest
 Closing (Pending.Dooms from ∷ rest) = Closing rest
+Closing (Pending.Killed ∷ rest) = Closing rest
 Closing (p ∷ rest) = ⊥
 
 -- the steps of a call are proper, and a thread that doesn't live holds nothing
@@ -64,7 +66,7 @@ module _ (image : Image) where
   Fits c left next = Unit {0}
 
   ways : (held : List Bool) → HoldsOfWays (Proper image held)
-  ways held = record { call = (λ a left h. h, λ left h. h, λ a left h. h); replies = λ reply. refl; fails = λ reason cause. (tt, λ size. tt, λ a. tt) }
+  ways held = record { call = (λ a left h. h, λ left h. h, λ a left h. h); runs_to = λ a before deadline left h. h; replies = λ reply. refl; fails = λ reason cause. (tt, λ size. tt, λ a. tt) }
 
   going : (c : Call) (checked : List Bool) (steps : Steps) → Going c checked steps → IsProper image (record c { checked = checked; pending = steps })
   going c checked steps h = (h.1, λ dead. absurd (true≢false (sym h.0 ∙ dead)))
@@ -78,6 +80,8 @@ module _ (image : Image) where
   refused-proper held Mode.User Refusal.FailsUser e left = tt
   refused-proper held Mode.Supervisor Refusal.FailsUser e left = refl
   refused-proper held mode (Refusal.Answers reply) e left = refl
+  refused-proper held mode (Refusal.AnswersUninit reply) Errno.EINVAL left = refl
+  refused-proper held mode (Refusal.AnswersUninit reply) e left = tt
 
   fatal-closes : (i : Image) (t : ℕ) (me : Thread) (reason : ℕ) (policy : Policy) → Proper image no_rows (fatal_steps i t me reason policy) × (Bare no_rows × Closing (fatal_steps i t me reason policy))
   fatal-closes i t me reason policy =
@@ -113,7 +117,7 @@ module _ (image : Image) where
   gone-proper sited left u t Next.stays me same h was = was
 
 ignores : Ignores call_of all_other
-ignores = record { due = λ h me due. refl; told = λ h me told. refl; domain = λ h me domain. refl; doomed = λ h me. refl }
+ignores = record { due = λ h me due. refl; told = λ h me told. refl; domain = λ h me domain. refl; doomed = λ h me. refl; flagged = λ h me aborted suspended. refl }
 
 module _ (m : State) (t x : ℕ) where
   abbrev me : Thread
@@ -125,6 +129,11 @@ module _ (m : State) (t x : ℕ) where
   Stands Pending.Exit rest = Bare (thread_at m t).checked × (is_living (thread_at m t).life ≡ true)
   Stands (Pending.CleanPair who) rest = Unit {0}
   Stands Pending.Recycle rest = Unit {0}
+  Stands Pending.Left rest = Unit {0}
+  Stands Pending.Tick rest = Unit {0}
+  Stands (Pending.TimeOut who) rest = Unit {0}
+  Stands Pending.Expire rest = Unit {0}
+  Stands (Pending.Cut who) rest = Unit {0}
   Stands q rest = IsProper m.image (record (call_of (thread_at m t)) { pending = q ∷ rest })
 
   stands : (q : Pending) (rest : Steps) → IsProper m.image (record (call_of (thread_at m t)) { pending = q ∷ rest }) → Stands q rest
@@ -132,6 +141,11 @@ module _ (m : State) (t x : ℕ) where
   stands Pending.Exit rest h = absurd h.0
   stands (Pending.CleanPair who) rest h = absurd h.0
   stands Pending.Recycle rest h = absurd h.0
+  stands Pending.Left rest h = absurd h.0
+  stands Pending.Tick rest h = absurd h.0
+  stands (Pending.TimeOut who) rest h = absurd h.0
+  stands Pending.Expire rest h = absurd h.0
+  stands (Pending.Cut who) rest h = absurd h.0
   stands q rest h = h
 
   pub offered-proper : IsProper m.image (call_of (thread_at m t)) → (q : Pending) (rest : Steps) → Offers m t q rest → Stands q rest
@@ -148,7 +162,13 @@ module _ (m : State) (t x : ℕ) where
       by (begins e lives doomed there) = ((at [] e).0, lives)
       by (exits e lives doomed there) = ((at [] e).0, lives)
       by (tends {p = Pending.CleanPair who} is started) = tt
+      by (stops e lives must) = (tt, λ dead. absurd (true≢false (sym lives ∙ dead)))
+      by (leaves ends) = tt
       by (tends {p = Pending.Recycle} is started) = tt
+      by (tends {p = Pending.Tick} is started) = tt
+      by (tends {p = Pending.TimeOut who} is started) = tt
+      by (tends {p = Pending.Expire} is started) = tt
+      by (tends {p = Pending.Cut who} is started) = tt
       by (tends {p = q} is started) = absurd (false≢true is)
 
   module _ (all : AreProper m.image m) (known : IsKnown (core_of m)) (lawful : IsLawful m.image) where
@@ -174,6 +194,12 @@ module _ (m : State) (t x : ℕ) where
     fits (Pending.Fatal reason cause) rest h = tt
     fits (Pending.CleanPair who) rest h = tt
     fits Pending.Recycle rest h = tt
+    fits Pending.Killed rest h = tt
+    fits Pending.Left rest h = tt
+    fits Pending.Tick rest h = tt
+    fits (Pending.TimeOut who) rest h = tt
+    fits Pending.Expire rest h = tt
+    fits (Pending.Cut who) rest h = tt
     fits (Pending.Check a kind want refusal) rest h = checks a kind want refusal rest (alive h.1) h.0 (verdict m t a.0 kind want) refl
     fits (Pending.ClearInit a) rest h = h
     fits (Pending.Drops from) rest h = h
@@ -199,8 +225,12 @@ module _ (m : State) (t x : ℕ) where
         let lives : is_living (thread_at s t).life ≡ true = at_set (λ n (z : Thread). is_living z.life ≡ true) m.threads who.0 t child nobody refl (alive h.1) in
         set s (set m all who.0 child (none-held, λ dead. absurd (true≢false dead))) t (T.at_steps s.image (record (thread_at s t) { child = None }) rest)
         (h.0 (thread_at s t).checked, λ dead. absurd (true≢false (sym lives ∙ dead)))
+    proper-after (Pending.Cut who) rest h =
+        each-after call_of (IsProper m.image) ignores m t x (Pending.Cut who) rest (λ who script stack priority mode. (none-held, λ dead. absurd (true≢false dead)))
+        (λ th was. (tt, λ dead. ((was.1 dead).0, tt))) all (λ u th image same was. was)
     proper-after q rest h =
-        each-after call_of (IsProper m.image) ignores m t x q rest (λ who script stack priority mode. (none-held, λ dead. absurd (true≢false dead))) all
+        each-after call_of (IsProper m.image) ignores m t x q rest (λ who script stack priority mode. (none-held, λ dead. absurd (true≢false dead)))
+        (λ th was. (tt, λ dead. ((was.1 dead).0, tt))) all
         (λ u th image same was. gone-proper m.image known.reached.sited rest u t (next_of m t x q) th image (subst (λ (c : Call). Fits m.image c rest (next_of m t x q)) (sym same) (fits q rest h)) was)
 
 -- Along a run.
