@@ -32,10 +32,11 @@ abbrev pub is_shown : Todo → Bool
 is_shown (Todo.show q rest) = true
 is_shown q = false
 
--- the last step of a turn
+-- the last step of a turn, or of a mark
 abbrev pub is_end : Todo → Bool
 is_end Todo.park = true
 is_end Todo.done = true
+is_end Todo.paid = true
 is_end q = false
 
 -- a step but an event, a claim to read and a visit
@@ -107,17 +108,34 @@ module _ (image : Image) (P : Todos → Type 0) where
   unless true q todo put h = h
   unless false q todo put h = put refl h
 
-  module _ (errand : (q : Todo) (todo : Todos) → is_errand q ≡ true → P todo → P (q ∷ todo)) (ended : (x : ℕ) (todo : Todos) → P todo → P (Todo.end_call x ∷ todo)) where
-    pub wakes-kept : (ws : List (ThreadIx × Told)) (todo : Todos) → P todo → P (wakes ws todo)
-    wakes-kept [] todo h = h
-    wakes-kept (w ∷ ws) todo h = errand (Todo.wake w.0.0 w.1) (wakes ws todo) refl (wakes-kept ws todo h)
+  module _ (errand : (q : Todo) (todo : Todos) → is_errand q ≡ true → P todo → P (q ∷ todo)) where
+    waked-kept : (ws : List (ThreadIx × Told)) (todo : Todos) → P todo → P (wakes ws todo)
+    waked-kept [] todo h = h
+    waked-kept (w ∷ ws) todo h = errand (Todo.wake w.0.0 w.1) (wakes ws todo) refl (waked-kept ws todo h)
 
+    look-kept : (who : ℕ) (w : ThreadWord) (note : Option ℕ) (todo : Todos) → P todo
+        → P (elim note as (λ _. Todos) [ Some site ↦ Todo.look who site w.number ∷ todo | None ↦ Todo.rouse who ∷ todo ])
+    look-kept who w None todo h = errand (Todo.rouse who) todo refl h
+    look-kept who w (Some site) todo h = errand (Todo.look who site w.number) todo refl h
+
+    -- behind an event that stops another thread, or goes on with it, and behind a wake of a futex
+    pub errands-kept : (c : Context) (q : Pending) (e : FineStep) (todo : Todos) → P todo → P (looks_behind image c q e todo)
+    errands-kept c (Pending.Abort who) e todo h = by (is_done_in (act_in e.act) && not (who.0 == c.thread))
+      where
+        by : (b : Bool) → P (if b then looks_for image who.0 (thread_in e.word) todo else todo)
+        by true = look-kept who.0 (thread_in e.word) (thread_in e.word).note todo h
+        by false = h
+    errands-kept c (Pending.Continue who) e todo h = either (is_done_in (act_in e.act)) (Todo.rouse who.0) todo (λ k g. errand (Todo.rouse who.0) todo refl g) h
+    errands-kept c (Pending.FutexWake a all) e todo h = waked-kept (told_all (woken_in (act_in e.act))) todo h
+    errands-kept c q e todo h = h
+
+  module _ (errand : (q : Todo) (todo : Todos) → is_errand q ≡ true → P todo → P (q ∷ todo)) (ended : (x : ℕ) (todo : Todos) → P todo → P (Todo.end_call x ∷ todo)) where
     end_calls-kept : (xs : List ℕ) (todo : Todos) → P todo → P (end_calls xs todo)
     end_calls-kept [] todo h = h
     end_calls-kept (x ∷ xs) todo h = ended x (end_calls xs todo) (end_calls-kept xs todo h)
 
     pub behind-kept : (c : Context) (q : Pending) (moved : Exchange) (todo : Todos) → P todo → P (behind_step image c q moved todo)
-    behind-kept c (Pending.Work a ask) moved todo h = wakes-kept (outcome_in moved).woken todo h
+    behind-kept c (Pending.Work a ask) moved todo h = waked-kept errand (outcome_in moved).woken todo h
     behind-kept c Pending.Exit moved todo h = end_calls-kept c.claims todo h
     behind-kept c Pending.Killed moved todo h = end_calls-kept c.claims todo h
     behind-kept c (Pending.Answer reply to) moved todo h = end_calls-kept c.claims todo h
@@ -126,21 +144,8 @@ module _ (image : Image) (P : Todos → Type 0) where
         let own = own_row image c.thread in either (row_named image a == own) (Todo.end_call own) todo (λ e k. ended own todo k) h
     behind-kept c q moved todo h = h
 
-    look-kept : (who : ℕ) (w : ThreadWord) (note : Option ℕ) (todo : Todos) → P todo
-        → P (elim note as (λ _. Todos) [ Some site ↦ Todo.look who site w.number ∷ todo | None ↦ Todo.rouse who ∷ todo ])
-    look-kept who w None todo h = errand (Todo.rouse who) todo refl h
-    look-kept who w (Some site) todo h = errand (Todo.look who site w.number) todo refl h
-
-    -- behind an event that stops another thread, or goes on with it, and behind a wake of a futex
     pub looks-kept : (c : Context) (q : Pending) (e : FineStep) (todo : Todos) → P todo → P (looks_behind image c q e todo)
-    looks-kept c (Pending.Abort who) e todo h = by (is_done_in (act_in e.act) && not (who.0 == c.thread))
-      where
-        by : (b : Bool) → P (if b then looks_for image who.0 (thread_in e.word) todo else todo)
-        by true = look-kept who.0 (thread_in e.word) (thread_in e.word).note todo h
-        by false = h
-    looks-kept c (Pending.Continue who) e todo h = either (is_done_in (act_in e.act)) (Todo.rouse who.0) todo (λ k g. errand (Todo.rouse who.0) todo refl g) h
-    looks-kept c (Pending.FutexWake a all) e todo h = wakes-kept (told_all (woken_in (act_in e.act))) todo h
-    looks-kept c q e todo h = h
+    looks-kept = errands-kept errand
 
   -- The forms in which pending steps are expanded.
   pub record Forms : Type 0 where
