@@ -4,7 +4,7 @@ use Rattle.um_fine.specs.Answers.{is_void}
 use Rattle.um_fine.specs.Follows.{shown_step}
 use Rattle.um_fine.specs.Places.{acting, armed_for, clearing, noted_cell, noting, put_away, settling}
 use Rattle.um_fine.specs.Runs.{changed}
-use Rattle.um_refinement.specs.Frames.{IsAccess, IsActOver, IsStart, IsWaitOver, access_alone, access_over, access_settled, act_alone, act_settled, both, nothing, rereads, settled}
+use Rattle.um_refinement.specs.Frames.{IsAccess, IsActOver, IsNoted, IsStart, IsWaitOver, access_alone, access_over, access_settled, accesses, act_alone, act_settled, acts, arming, both, nothing, rereads, settled}
 use Rattle.um_refinement.specs.Lists.{is_arm}
 use Rattle.um_refinement.proofs.ListGrowth.{EndsWell, acted-kept, behind-kept, changed-kept, claim-kept, cleaning-kept, drop-kept, either, goes-kept, is_errand, looks-kept, next-kept, none≢some, pass-kept, show-kept, take-kept, turn-kept, visits_row}
 
@@ -41,14 +41,14 @@ module _ (image : Image) where
   settling-access c None q = access_alone
   settling-access c (Some deadline) q = access_settled
 
-  noting-framed : (c : Context) (site : Option ℕ) (todo : Todos) → Are todo → Are (noting image c site todo)
-  noting-framed c None todo h = h
-  noting-framed c (Some site) todo h = elim (is_some c.noted) as (λ b. Are (if b then todo else Todo.note site ∷ todo)) [ true ↦ h | false ↦ (tt, h) ]
+  noting-framed : (c : Context) (site : Option ℕ) (todo : Todos) → ((there : ℕ) → site ≡ Some there → IsNoted image there todo) → Are todo → Are (noting image c site todo)
+  noting-framed c None todo for h = h
+  noting-framed c (Some site) todo for h = elim (is_some c.noted) as (λ b. Are (if b then todo else Todo.note site ∷ todo)) [ true ↦ h | false ↦ (for site refl, h) ]
 
   act-framed : (c : Context) (q : Pending) (rest : Steps) → Are (acting image c q (Todo.show q rest ∷ []))
   act-framed c q rest =
       let over = settling image c (armed_for image c q) q in
-      noting-framed c (noted_cell image (q ∷ [])) (Todo.show q rest ∷ over) ((λ site at. settling-act c (armed_for image c q) q), over-framed over (settling-over c (armed_for image c q) q))
+      noting-framed c (noted_cell image (q ∷ [])) (Todo.show q rest ∷ over) (λ there at. acts at) ((λ site at. settling-act c (armed_for image c q) q), over-framed over (settling-over c (armed_for image c q) q))
 
   arm-framed : (q : Pending) (rest : Steps) → is_arm q ≡ true → noted_cell image (q ∷ []) ≡ None → Are (Todo.owe ∷ Todo.show q rest ∷ [])
   arm-framed q rest arms none = ((q, rest, refl, arms), ((λ site at. act_alone), tt))
@@ -82,10 +82,10 @@ module _ (image : Image) where
   fine-framed c (Pending.FutexWait a value timeout) rest =
       let q = Pending.FutexWait a value timeout in
       let over = settling image c (armed_for image c q) q in
-      noting-framed c (noted_cell image (q ∷ [])) (on_memory q rest ++ over)
+      noting-framed c (noted_cell image (q ∷ [])) (on_memory q rest ++ over) (λ there at. accesses at)
       (long-framed q rest over tt (settling-over c (armed_for image c q) q) (λ site at. settling-access c (armed_for image c q) q))
   fine-framed c (Pending.FutexWake a all) rest = access-framed (Pending.FutexWake a all) rest tt
-  fine-framed c (Pending.Arm ticks) rest = noting-framed c (noted_cell image rest) (Todo.owe ∷ Todo.show (Pending.Arm ticks) rest ∷ []) (arm-framed (Pending.Arm ticks) rest refl refl)
+  fine-framed c (Pending.Arm ticks) rest = noting-framed c (noted_cell image rest) (Todo.owe ∷ Todo.show (Pending.Arm ticks) rest ∷ []) (λ there at. arming refl at) (arm-framed (Pending.Arm ticks) rest refl refl)
   fine-framed c (Pending.ArmTimer ticks) rest = arm-framed (Pending.ArmTimer ticks) rest refl refl
   fine-framed c (Pending.ClearInit a) rest = clear-framed (row_named image a == own_row image c.thread) a rest
   fine-framed c q rest = ((λ site at. act_alone), tt)

@@ -109,7 +109,7 @@ module _ (image : Image) (P : Todos → Type 0) where
   unless false q todo put h = put refl h
 
   module _ (errand : (q : Todo) (todo : Todos) → is_errand q ≡ true → P todo → P (q ∷ todo)) where
-    waked-kept : (ws : List (ThreadIx × Told)) (todo : Todos) → P todo → P (wakes ws todo)
+    pub waked-kept : (ws : List (ThreadIx × Told)) (todo : Todos) → P todo → P (wakes ws todo)
     waked-kept [] todo h = h
     waked-kept (w ∷ ws) todo h = errand (Todo.wake w.0.0 w.1) (wakes ws todo) refl (waked-kept ws todo h)
 

@@ -58,6 +58,13 @@ IsSleepOver todo = todo ≡ Todo.done ∷ []
 abbrev pub IsMove : ℕ → Todos → Type 0
 IsMove d todo = (who : ThreadIx) × (rest : Steps) × (todo ≡ Todo.show (Pending.DomMove d who) rest ∷ [])
 
+-- what a note is made for: the act that may wait in the cell of this site, or the arming of its deadline
+pub data IsNoted (image : Image) (site : ℕ) : Todos → Type 0 where
+  acts : {q : Pending} {rest : Steps} {over : Todos} → noted_cell image (q ∷ []) ≡ Some site → IsNoted image site (Todo.show q rest ∷ over)
+  accesses : {q : Pending} {rest : Steps} {over : Todos} → noted_cell image (q ∷ []) ≡ Some site
+      → IsNoted image site (Todo.hold ∷ Todo.read_claim None ∷ Todo.region_load ∷ Todo.show q rest ∷ access_over over)
+  arming : {q : Pending} {rest : Steps} → is_arm q ≡ true → noted_cell image rest ≡ Some site → IsNoted image site (Todo.owe ∷ Todo.show q rest ∷ [])
+
 -- what follows a step
 abbrev pub Behind : Image → Todo → Todos → Type 0
 Behind image (Todo.show q rest) todo = (site : ℕ) → noted_cell image (q ∷ []) ≡ Some site → IsActOver todo
@@ -69,6 +76,7 @@ Behind image (Todo.read_claim None) todo = (access : Todos) × (todo ≡ Todo.re
 Behind image (Todo.unshut who) todo = IsStart todo
 Behind image (Todo.settle deadline mark) todo = (todo ≡ []) ⊎ ((site : ℕ) × (todo ≡ Todo.reread site ∷ []))
 Behind image (Todo.reread site) todo = todo ≡ []
+Behind image (Todo.note site) todo = IsNoted image site todo
 Behind image Todo.owe todo = (q : Pending) × (rest : Steps) × (todo ≡ Todo.show q rest ∷ []) × (is_arm q ≡ true)
 Behind image Todo.sleep todo = todo ≡ Todo.reread_asleep ∷ Todo.done ∷ []
 Behind image Todo.reread_asleep todo = IsSleepOver todo
