@@ -82,6 +82,18 @@ fn waits(row: Option<usize>, other: Standing) -> Standing
     }
 }
 
+/// A living thread: by the object, the end or the futex that it waits for.
+fn living<D: Dumped>(last: &D, thread: u8) -> Standing
+    ensures { result
+        ≡ waits (awaited (D.state last.now).objects thread)
+        (joins_or (asked_in thread (D.state last.now).joins)
+        (watches (asked_in thread (D.state last.now).futexes))) }
+{
+    let joined = asked_in(last.joins(), thread);
+    let watched = asked_in(last.futexes(), thread);
+    waits(awaited(last, thread), joins_or_watches(joined, watched))
+}
+
 /// How a thread is: the first of these that holds.
 #[tactic(auto, unfolding(crate::specs::Dump::standing_of))]
 pub fn standing_of<D: Dumped>(last: &D, thread: u8) -> Standing
@@ -95,9 +107,7 @@ pub fn standing_of<D: Dumped>(last: &D, thread: u8) -> Standing
     } else if life == Life::Ended {
         Standing::Ended
     } else {
-        let joins = asked_in(last.joins(), thread);
-        let watched = asked_in(last.futexes(), thread);
-        waits(awaited(last, thread), joins_or_watches(joins, watched))
+        living(last, thread)
     }
 }
 
