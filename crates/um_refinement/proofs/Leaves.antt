@@ -1,5 +1,5 @@
 -- What a lawful step leaves of the machine's state: all, where no trace shows it, or what the machine makes by the step of its event. That is
--- one of a thread's instruction, the end of an aborted thread at rest, a resumed call, a visit that finds a permission, the end of a cleaning, or
+-- one of a thread's instruction, a resumed call, a visit that finds a permission, the end of a cleaning, or
 -- a step beside the instructions.
 use Rattle.um_refinement.proofs.Words.{◌≡◌, ℕ, ◌<◌, [], ◌∷◌, Some, Act, Told, ROWS, Pending, Steps, to_thread, MayChoose, State, FineAct, More, Unseen, address_of, act_in, leftover_in, by_me, Context, ByOneOf, Todo, Todos, Processor, SiteMay, Exchange, FineStep, Fine, Rel}
 use Rattle.std.specs.Prelude.{◌+◌, IsTrue, true}
@@ -8,7 +8,7 @@ use Rattle.um_base.specs.declared.names.ThreadIx.{ThreadIx}
 use Rattle.um_machine.specs.State.{is_started, thread_at}
 use Rattle.um_machine.specs.Table as T
 use Rattle.um_words.specs.declared.fine.Mark.{Mark}
-use Rattle.um_fine.specs.Answers.{is_killed, now_in, woken_in}
+use Rattle.um_fine.specs.Answers.{now_in, woken_in}
 use Rattle.um_fine.specs.Asks.{by_actor}
 use Rattle.um_fine.specs.Processor.{actor_or}
 use Rattle.um_refinement.specs.Stops.{cell_site}
@@ -62,9 +62,6 @@ module _ (f : Fine) (m : State) (e : FineStep) where
         → e.act ≡ by_me f.image maker (Act.DropPair (to_thread who) (address_of f.image x) (leftover_in (act_in e.act))) → Leaves (T.after m mine x (Pending.CleanPair (to_thread who)) rest)
     recycles : (x : ℕ) (rest : Steps) (todo : Todos) → maker.todo ≡ Todo.recycle x ∷ todo → x < ROWS
         → e.act ≡ by_me f.image maker (Act.Recycle (address_of f.image x)) → MayChoose m mine x Pending.Recycle → Leaves (T.after m mine x Pending.Recycle rest)
-    -- in place of the begin of a line or of an exit
-    stops : (q : Pending) (rest : Steps) (todo : Todos) → Shows f m e.cpu e q rest todo → is_killed e.act ≡ true
-        → e.act ≡ by_me f.image maker Act.Killed → maker.context.pending ≡ [] → Leaves (T.after m mine 0 Pending.Killed [])
     beside : (t x : ℕ) (q : Pending) → Beside t x q → MayChoose m t x q → IsTrue (is_started (thread_at m t).life)
         → Leaves (T.after m t x q (thread_at m t).pending)
 
@@ -77,5 +74,4 @@ module _ (f : Fine) (m : State) (e : FineStep) where
   HasStep _ (drops from x rest todo h said) = maker.context.pending ≡ Pending.Drops from ∷ rest
   HasStep _ (cleans who x rest todo h said) = Unit {0}
   HasStep _ (recycles x rest todo at l said chosen) = Unit {0}
-  HasStep _ (stops q rest todo h killed said at_rest) = Unit {0}
   HasStep _ (beside t x q how chosen started) = Unit {0}

@@ -61,6 +61,11 @@ IsShown (Pending.Inherit who) = ⊥
 IsShown (Pending.Drops from) = ⊥
 IsShown (Pending.CleanPair who) = ⊥
 IsShown Pending.Recycle = ⊥
+IsShown Pending.Left = ⊥
+IsShown Pending.Tick = ⊥
+IsShown (Pending.TimeOut who) = ⊥
+IsShown Pending.Expire = ⊥
+IsShown (Pending.Cut who) = ⊥
 IsShown q = Unit {0}
 
 act-same : (image : Image) (p : Processor) (w : ThreadWord) (more : More) (q : Pending) (act : Act) → IsShown q → Makes NoWords q
