@@ -1,11 +1,11 @@
 -- A step that a processor shows is one that the machine offers its thread, where the relation holds.
-use Rattle.um_refinement.proofs.Words.{allows, Act, Bare, Bool, Cell, Context, CpuMay, Exchange, Fine, FineAct, FineStep, Fits, Image, IsOf, IsOffered, IsTrue, List, MayChoose, More, None, Offers, Option, Pending, Processor, ROWS, Rel, Site, SiteMay, SiteState, State, Steps, Thread, ThreadIx, Todo, Todos, Unseen, WordIs, [], act_in, and_from, and_parts, ap, arith, as_thread, begins, behind_shown, by_me, exits, false, false≢true, fits, fits_step, goes, has_steps, if◌then◌else◌, instruction_at, is_living, is_over, is_some, is_visiting, is_word_read, length, list_all, may_go, none_due, not, not-true, not_from_false, own_part, refl, runs, says, says_show, says_step, shows, site_after, site_answers, site_at, site_takes, skips_drops, skips_inherit, slice_index_or, subst, suc, sym, thread_at, thread_in, thread_state, true, true≢false, visited, waits, word_of, zero, ℕ, ◌&&◌, ◌<◌, ◌||◌, ◌∙◌, ◌∷◌, ◌≡◌, ◌⊎◌}
+use Rattle.um_refinement.proofs.Words.{allows, moves, Act, Bare, Bool, Cell, Context, CpuMay, Exchange, Fine, FineAct, FineStep, Fits, Image, IsOf, IsOffered, IsTrue, List, MayChoose, More, None, Offers, Option, Pending, Processor, ROWS, Rel, Site, SiteMay, SiteState, State, Steps, Thread, ThreadIx, Todo, Todos, Unseen, WordIs, [], act_in, and_from, and_parts, ap, arith, as_thread, begins, behind_shown, by_me, exits, false, false≢true, fits, fits_step, goes, has_steps, if◌then◌else◌, instruction_at, is_living, is_over, is_some, is_visiting, is_word_read, length, list_all, may_go, none_due, not, not-true, not_from_false, own_part, refl, runs, says, says_show, says_step, shows, site_after, site_answers, site_at, site_takes, skips_drops, skips_inherit, slice_index_or, subst, suc, sym, thread_at, thread_in, thread_state, true, true≢false, visited, waits, word_of, zero, ℕ, ◌&&◌, ◌<◌, ◌||◌, ◌∙◌, ◌∷◌, ◌≡◌, ◌⊎◌}
 use Rattle.um_machine.specs.Run.{must_stop, stops}
 use Rattle.um_machine.specs.Table as T
 use Rattle.um_base.specs.declared.names.Access.{Access}
 use Rattle.um_words.specs.Threads as W
 use Rattle.um_fine.specs.Answers.{is_killed, is_killed_act}
-use Rattle.um_fine.specs.Asks.{fits_show, site_by}
+use Rattle.um_fine.specs.Asks.{fits_show, moves_show, site_by}
 use Rattle.um_fine.specs.Asks as A
 use Rattle.um_fine.specs.Follows.{shown_step}
 use Rattle.um_refinement.specs.Lists.{times}
@@ -252,6 +252,20 @@ module _ {f : Fine} {m : State} {k : ℕ} {e : FineStep} {q : Pending} {rest : S
       kills killed Pending.Exit s said = stops-here Pending.Exit killed said
       kills killed Pending.Killed s said = said
       kills killed z s said = absurd s
+
+  -- what goes with it
+  pub moved-made : e.moved ≡ moves_show f.image (f.processors k) q rest e.moved
+  moved-made =
+      by-made (λ z. e.moved ≡ moves_show f.image (f.processors k) z rest e.moved) (λ killed. listed-moved) (λ killed stopping. listed-moved ∙ stopped h.listed stopping)
+    where
+      listed-moved : e.moved ≡ moves_show f.image (f.processors k) h.listed rest e.moved
+      listed-moved = sym (ap (λ (s : FineStep). s.moved) h.may.makes) ∙ ap (λ (z : Todos). moves f.image (f.processors k) z e.act e.moved) h.at
+
+      stopped : (z : Pending) → IsStopping z → moves_show f.image (f.processors k) z rest e.moved ≡ Exchange.nothing
+      stopped Pending.Begin s = refl
+      stopped Pending.Exit s = refl
+      stopped Pending.Killed s = refl
+      stopped z s = absurd s
 
   -- what the site of the step says of its act, and that it takes it
   pub says-at : (i : Site) (act : FineAct) → e.site ≡ i → e.act ≡ act → site_answers f.image (f.sites i) e.moved act ≡ act
