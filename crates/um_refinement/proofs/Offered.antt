@@ -184,6 +184,17 @@ module _ (f : Fine) (m : State) (rel : Rel f m) (k : ℕ) (l : k < f.cpus) where
           let most = (rel.processors k l).dues.few in absurd (omega (arith, over, least, most, few))
       by x few false h = refl
 
+-- A thread that doesn't wait wasn't cut, and its own part is the machine's.
+pub not-cut : {f : Fine} {m : State} {c : Context} → IsOf f m c → waits c.pending ≡ false → cutters f c.thread ≡ 0
+not-cut {f} {m} {c} of awake = by (cutters f c.thread) refl
+  where
+    by : (n : ℕ) → cutters f c.thread ≡ n → n ≡ 0
+    by zero e = refl
+    by (suc n) e = absurd (true≢false (sym (of.waiting (omega (arith, e))) ∙ awake))
+
+pub own-unless : {f : Fine} {m : State} {c : Context} → IsOf f m c → waits c.pending ≡ false → as_thread c ≡ own_part (thread_at m c.thread)
+own-unless {f} {m} {c} of awake = ap (λ n. as_thread (as_cut n c)) (sym (not-cut of awake)) ∙ of.own
+
 -- A processor's event of a pending step: what is known of it, where the relation holds. On its list stands that step or, where an aborted
 -- thread at rest is killed, the begin or the exit that it doesn't make.
 pub record Shows (f : Fine) (m : State) (k : ℕ) (e : FineStep) (q : Pending) (rest : Steps) (todo : Todos) : Type 0 where
@@ -298,16 +309,11 @@ module _ {f : Fine} {m : State} {k : ℕ} {e : FineStep} {q : Pending} {rest : S
   pub own-part : IsOf f m (f.processors k).context
   own-part = (h.rel.contexts.running k h.there shows-runs).of shown-on
 
-  -- it wasn't cut, since it doesn't wait
   pub uncut : cutters f (f.processors k).context.thread ≡ 0
-  uncut = by (cutters f (f.processors k).context.thread) refl
-    where
-      by : (n : ℕ) → cutters f (f.processors k).context.thread ≡ n → n ≡ 0
-      by zero e = refl
-      by (suc n) e = absurd (true≢false (sym (own-part.waiting (omega (arith, e))) ∙ h.awake))
+  uncut = not-cut own-part h.awake
 
   pub own-same : as_thread (f.processors k).context ≡ own_part (thread_at m (f.processors k).context.thread)
-  own-same = ap (λ n. as_thread (as_cut n (f.processors k).context)) (sym uncut) ∙ own-part.own
+  own-same = own-unless own-part h.awake
 
   word-is : WordIs f m (f.processors k).context.thread
   word-is = (h.rel.threads (f.processors k).context.thread own-part.index).word
