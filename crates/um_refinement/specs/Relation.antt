@@ -17,7 +17,7 @@ use Rattle.um_refinement.specs.Looks.{LooksAre}
 use Rattle.um_refinement.specs.Frames.{AreFramed}
 use Rattle.um_refinement.specs.Offers.{ListIs}
 use Rattle.um_refinement.specs.Stops.{CutComes, CutIs, JoinsAre, LookThere, LooksFit, NoteIs, ShutIs, SleepIs}
-use Rattle.um_refinement.specs.Timing.{ClockIs, ExpiryComes, MarksAre, OwedIs, TimeoutComes, TimerIs}
+use Rattle.um_refinement.specs.Timing.{ClockIs, ExpiryComes, IsUnarmed, MarksAre, OwedIs, TimeoutComes, TimerIs}
 use Rattle.um_refinement.specs.Domains.{DomainIs, TableIs}
 use Rattle.um_refinement.specs.Resources.{HeapIs, MemoryIs}
 
@@ -51,6 +51,7 @@ pub record ProcessorIs (f : Fine) (m : State) (k : ℕ) : Type 0 where
   pub list : ListIs f.image (f.processors k)
   pub idle : IdleIs f k
   pub timer : TimerIs f m k
+  pub unarmed : IsUnarmed f k
   pub look : LookThere f k
   pub domain : DomainKept f k
   pub dues : DuesAre f m k

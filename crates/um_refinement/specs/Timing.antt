@@ -1,13 +1,16 @@
 -- Virtual time: the clock, marks that are owed, and that who waits with a deadline has a mark.
-use Rattle.std.specs.Prelude.{◌≡◌, ℕ, ◌+◌, ◌<◌, ◌≤◌, Bool, true, false, ◌==◌, ◌&&◌, ◌||◌, not, nat_le, if◌then◌else◌, List, [], ◌∷◌, Some, IsTrue}
+use Rattle.std.specs.Prelude.{◌≡◌, ℕ, ◌+◌, ◌<◌, ◌≤◌, Bool, true, false, ◌==◌, ◌&&◌, ◌||◌, not, nat_le, if◌then◌else◌, List, [], ◌∷◌, Option, Some, None, IsTrue}
 use Rattle.std.specs.List.{list_any, list_all}
+use Rattle.um_base.specs.declared.image.Image.{Image}
 use Rattle.um_base.specs.declared.limits.TheConstants.{ROWS}
 use Rattle.um_machine.specs.declared.contents.Contents.TheVariants as Contents
-use Rattle.um_machine.specs.Order.{to_row}
+use Rattle.um_machine.specs.declared.pending.Pending.{Pending}
+use Rattle.um_machine.specs.Order.{Steps, to_row}
 use Rattle.um_machine.specs.State.{State, thread_at, object_at, is_started, waiters_in}
 use Rattle.um_words.specs.declared.fine.Mark.{Mark}
 use Rattle.um_fine.specs.Clock.{Marked, deadlines, same_mark}
-use Rattle.um_fine.specs.Places.{Todo, Todos, is_paid}
+use Rattle.um_fine.specs.Context.{Context}
+use Rattle.um_fine.specs.Places.{Todo, Todos, armed_for, is_paid}
 use Rattle.um_fine.specs.Processor.{actor_or}
 use Rattle.um_fine.specs.Seeking.{deadline_of}
 use Rattle.um_refinement.specs.Fine.{Fine, clock, one_if, over_processors, scheduler}
@@ -97,3 +100,29 @@ IsHand (q ∷ todo) = ⊥
 pub record TimerIs (f : Fine) (m : State) (k : ℕ) : Type 0 where
   pub actor : IsTrue (is_started (thread_at m (actor_or f.image (f.processors k).actor)).life)
   pub hand : times (f.processors k).todo ≡ true → IsHand (f.processors k).todo
+
+-- an act, for which a deadline may be armed
+abbrev pub is_act : Pending → Bool
+is_act (Pending.Work a ask) = true
+is_act (Pending.Join who timeout) = true
+is_act (Pending.FutexWait a value timeout) = true
+is_act q = false
+
+abbrev pub shows_act : Todo → Bool
+shows_act (Todo.show q rest) = is_act q
+shows_act q = false
+
+-- the deadline that is armed for the step that a call makes next
+abbrev pub armed_step : Image → Context → Pending → Option ℕ
+armed_step image c q = if is_act q then armed_for image c q else None
+
+abbrev pub armed_next : Image → Context → Steps → Option ℕ
+armed_next image c [] = None
+armed_next image c (Pending.Inherit who ∷ q ∷ rest) = armed_step image c q
+armed_next image c (Pending.Drops from ∷ q ∷ rest) = armed_step image c q
+armed_next image c (q ∷ rest) = armed_step image c q
+
+-- Where no act is on its processor's list, no deadline is armed for a thread's next step.
+abbrev pub IsUnarmed : Fine → ℕ → Type 0
+IsUnarmed f k =
+    let p = f.processors k in list_any shows_act p.todo ≡ false → armed_next f.image p.context p.context.pending ≡ None

@@ -23,7 +23,7 @@ use Rattle.um_refinement.specs.Lists.{counted, runs, runs_thread, times}
 use Rattle.um_refinement.specs.Offers.{is_over}
 use Rattle.um_refinement.specs.Threads.{cutters, is_ready_there, occurs, places, runs_on, tellers, told_by}
 use Rattle.um_refinement.specs.Stops.{cell_site, clears_own, is_look, is_reread, is_reread_asleep, is_rouse, is_waiting_site, looks_well, noted_at, starts, waits_at}
-use Rattle.um_refinement.specs.Timing.{arms, handles, is_left, is_placed, is_sound, left_marks, open_marks, settles}
+use Rattle.um_refinement.specs.Timing.{armed_next, arms, handles, is_left, is_placed, is_sound, left_marks, open_marks, settles, shows_act}
 use Rattle.um_worked_runs.specs.Evaluate.{numbers}
 use Rattle.um_worked_runs.specs.Fine.Compared.{Tested, implies, same_bool, same_numbers, same_option, same_waiters}
 
@@ -136,6 +136,7 @@ module _ (n : Tested) (f : Fine) (m : State) where
       let p = f.processors k in
       is_started (thread_at m (actor_or f.image p.actor)).life && implies (times p.todo) (is_hand p.todo)
       && list_all looks_well p.todo
+      && (list_any shows_act p.todo || not (is_some (armed_next f.image p.context p.context.pending)))
 
   abbrev pub is_in_time : Bool
   is_in_time =
