@@ -14,7 +14,7 @@ NoPairs pairs = false
 NoPairs part = true
 
 pub pairs-same : (m : State) (t x : ℕ) (q : Pending) (rest : Steps) → Makes NoPairs q → (T.after m t x q rest).pairs ≡ m.pairs
-pairs-same m = read-same NoPairs (λ s. s.pairs) m (reads-keeping NoPairs (λ s. s.pairs) m.pairs (λ s threads. refl) (λ s objects. refl) (λ s bytes. (refl, refl)) (λ may s u x there. absurd may) (λ may s left. refl) (λ may s d ps. refl))
+pairs-same m = read-same NoPairs (λ s. s.pairs) m (reads-keeping NoPairs (λ s. s.pairs) m.pairs (λ s threads. refl) (λ s objects. refl) (λ s bytes. (refl, refl)) (λ may s u x there. absurd may) (λ may s left. refl) (λ may s d ps. refl) (λ may s joins futexes. refl) (λ may s now armed. refl))
 
 -- The fine machine.
 

@@ -7,7 +7,7 @@ use Rattle.um_refinement.proofs.Erased.{stepped}
 use Rattle.um_refinement.proofs.HeapSteps.{heap-sort}
 use Rattle.um_refinement.proofs.MemoryKept.{Untouched, after-untouched}
 use Rattle.um_refinement.proofs.MemorySteps.{memory-sort}
-use Rattle.um_refinement.proofs.Offered.{Shows, act-is, own-part, site-is, either-act}
+use Rattle.um_refinement.proofs.Offered.{Shows, act-is, moved-made, own-same, site-is, either-act}
 use Rattle.um_refinement.proofs.WordsKept.{IsShown}
 use Rattle.um_refinement.proofs.Writes.{Makes, Part, pools, read-same, reads-keeping}
 
@@ -17,7 +17,7 @@ NoPools pools = false
 NoPools part = true
 
 pub pools-same : (m : State) (t x : ℕ) (q : Pending) (rest : Steps) → Makes NoPools q → (T.after m t x q rest).pools ≡ m.pools
-pools-same m = read-same NoPools (λ s. s.pools) m (reads-keeping NoPools (λ s. s.pools) m.pools (λ s threads. refl) (λ s objects. refl) (λ s bytes. (refl, refl)) (λ may s u x there. refl) (λ may s left. absurd may) (λ may s d ps. refl))
+pools-same m = read-same NoPools (λ s. s.pools) m (reads-keeping NoPools (λ s. s.pools) m.pools (λ s threads. refl) (λ s objects. refl) (λ s bytes. (refl, refl)) (λ may s u x there. refl) (λ may s left. absurd may) (λ may s d ps. refl) (λ may s joins futexes. refl) (λ may s now armed. refl))
 
 -- The fine machine.
 
@@ -59,6 +59,7 @@ module _ (f : Fine) (m : State) (rel : Rel f m) (e : FineStep) (event : Event) (
       record {
         memory = ap (λ (b : Bytes). b.memory) now ∙ (rel.memory.memory ∙ sym (ap (λ (b : Bytes). b.memory) below));
         stacks = ap (λ (b : Bytes). b.stacks) now ∙ (rel.memory.stacks ∙ sym (ap (λ (b : Bytes). b.stacks) below));
+        futexes = ap (λ (b : Bytes). b.futexes) now ∙ (rel.memory.futexes ∙ sym (ap (λ (b : Bytes). b.futexes) below));
       }
     where
       now : bytes (stepped f.image f.cpus f.processors f.sites e) ≡ bytes f
@@ -87,7 +88,7 @@ module _ {f : Fine} {m : State} {k : ℕ} {e : FineStep} {rest : Steps} {todo : 
   unbuffer-pools size x h =
       let c = (f.processors k).context in
       let moved : e.moved ≡ Exchange.charge (T.cost_of c.pool size) =
-      sym (ap (λ (s : FineStep). s.moved) h.may.makes) ∙ ap (λ (z : Todos). moves f.image (f.processors k) z e.moved) h.at in
-      let pool : c.pool ≡ (thread_at m c.thread).pool = ap (λ (z : Thread). z.pool) (own-part h).own in
+      moved-made h in
+      let pool : c.pool ≡ (thread_at m c.thread).pool = ap (λ (z : Thread). z.pool) (own-same h) in
       ap (λ (z : Heap). z.pools) (heap-put f m h.rel e _ More.Nothing (act-is h) (site-is h))
       ∙ ((λ i. T.paid_back (charge_in (moved i)) (h.rel.heap.pools i)) ∙ ap (λ o. T.paid_back (T.cost_of o size) m.pools) pool)
