@@ -214,7 +214,7 @@ module _ (image : Image) where
   -- what is known of a step: a thread that is taken, or roused, and one whose word is read at the begin of its turn, is at rest
   pub record Rests (p : Processor) (e : FineStep) : Type 0 where
     pub taken : p.todo ≡ [] → IsAtRest e.moved
-    pub roused : is_void e.act ≡ false → (context_in e.moved).pending ≡ []
+    pub roused : (who : ℕ) (todo : Todos) → p.todo ≡ Todo.rouse who ∷ todo → is_void e.act ≡ false → (context_in e.moved).pending ≡ []
     pub read : (q : Pending) (rest : Steps) (todo : Todos) → p.todo ≡ Todo.show q rest ∷ todo → is_word_read e.act ≡ true → (p.context.pending ≡ []) × (p.context.ended ≡ false)
 
   goes-fits : (p : Processor) (e : FineStep) (todo : Todos) → p.todo ≡ todo → Rests p e → Fits image p.context todo → ListIs image (goes_on_by image p e todo)
@@ -255,7 +255,7 @@ module _ (image : Image) where
   goes-fits p e (Todo.tell_cut who ∷ todo) at r h = refilled-fits p todo h
   goes-fits p e (Todo.rouse who ∷ todo) at r h =
       let q = Todo.add (context_in e.moved) in
-      refilled-fits p (if is_void e.act then todo else q ∷ todo) (unless image (Fits image p.context) (is_void e.act) q todo (λ b k. (r.roused b, k)) h)
+      refilled-fits p (if is_void e.act then todo else q ∷ todo) (unless image (Fits image p.context) (is_void e.act) q todo (λ b k. (r.roused who todo at b, k)) h)
   goes-fits p e (Todo.sleep ∷ todo) at r h = record { fits = subst (Fits image (record no_context { thread = p.context.thread; ended = true })) (sym h.2) tt }
   goes-fits p e (Todo.reread_asleep ∷ todo) at r h =
       record { fits = either image (Fits image p.context) (is_awake (thread_in e.word)) (Todo.rouse p.context.thread) todo (λ b k. k) h }

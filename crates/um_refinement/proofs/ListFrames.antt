@@ -1,12 +1,12 @@
 -- Each step leaves a list on which behind each step that no trace shows stands what it is for.
-use Rattle.um_refinement.proofs.Words.{inl, inr, eq-eqb, ◌≡◌, ℕ, ◌+◌, Bool, true, false, [], ◌∷◌, ◌++◌, Option, Some, None, refl, subst, ◌<◌, false≢true, true≢false, is_some, if◌then◌else◌, ◌==◌, nat_lt, own_row, row_named, Addr, Image, ROWS, thread_of_row, Amount, Pending, Steps, State, is_visit, thread_in, context_in, behind_step, Context, FineStep, newborn, Todo, Todos, cleaning_of, end_of_turn, fine_steps, next_steps, is_cleaning_todo, Processor, dropped_at, goes_on_by, p_next, row_number, with_cleaned, begins_cleaning, cpu_of, same_cpu, Fine, AreFramed, Behind, OnMemory, names_row, Rel, on_memory, sized, queue_in, queue_of}
+use Rattle.um_refinement.proofs.Words.{inl, inr, eq-eqb, ◌≡◌, ℕ, ◌+◌, Bool, true, false, [], ◌∷◌, ◌++◌, Option, Some, None, refl, subst, ◌<◌, false≢true, true≢false, is_some, if◌then◌else◌, ◌==◌, nat_lt, own_row, row_named, Addr, Image, ROWS, thread_of_row, Amount, Pending, Steps, State, is_visit, thread_in, context_in, behind_step, Context, FineStep, newborn, Todo, Todos, cleaning_of, end_of_turn, fine_steps, next_steps, is_cleaning_todo, Processor, dropped_at, goes_on_by, p_next, row_number, with_cleaned, begins_cleaning, cpu_of, same_cpu, cond, eqb-true, Fine, AreFramed, Behind, OnMemory, names_row, Rel, on_memory, sized, queue_in, queue_of}
 use Rattle.um_fine.specs.Answers.{is_void}
 use Rattle.um_fine.specs.Follows.{shown_step}
 use Rattle.um_fine.specs.Places.{acting, armed_for, clearing, noted_cell, noting, put_away, settling}
 use Rattle.um_fine.specs.Runs.{changed}
 use Rattle.um_refinement.specs.Frames.{IsAccess, IsActOver, IsNoted, IsStart, IsWaitOver, access_alone, access_over, access_settled, accesses, act_alone, act_settled, acts, arming, both, nothing, rereads, settled}
 use Rattle.um_refinement.specs.Lists.{is_arm}
-use Rattle.um_refinement.proofs.ListGrowth.{EndsWell, acted-kept, behind-kept, changed-kept, claim-kept, cleaning-kept, drop-kept, either, goes-kept, is_errand, looks-kept, next-kept, none≢some, pass-kept, show-kept, take-kept, turn-kept, visits_row}
+use Rattle.um_refinement.proofs.ListGrowth.{EndsWell, acted-kept, behind-kept, claim-kept, cleaning-kept, drop-kept, either, goes-kept, is_errand, looks-kept, next-kept, none≢some, pass-kept, show-kept, take-kept, turn-kept, visits_row}
 
 module _ (image : Image) where
   abbrev Are : Todos → Type 0
@@ -139,27 +139,27 @@ module _ (image : Image) where
   -- A step.
 
   -- who is roused holds nothing
-  abbrev pub RousesBare : FineStep → Type 0
-  RousesBare e = is_void e.act ≡ false → (context_in e.moved).claims ≡ []
+  abbrev pub RousesBare : Processor → FineStep → Type 0
+  RousesBare p e = (who : ℕ) (todo : Todos) → p.todo ≡ Todo.rouse who ∷ todo → is_void e.act ≡ false → (context_in e.moved).claims ≡ []
 
   abbrev pub is_rouse_step : Todo → Bool
   is_rouse_step (Todo.rouse who) = true
   is_rouse_step q = false
 
-  goes-framed : (p : Processor) (e : FineStep) (todo : Todos) → RousesBare e → Are p.todo → Are todo → Are (goes_on_by image p e todo).todo
-  goes-framed p e [] bare was h =
+  goes-framed : (p : Processor) (e : FineStep) (todo : Todos) → p.todo ≡ todo → RousesBare p e → Are p.todo → Are todo → Are (goes_on_by image p e todo).todo
+  goes-framed p e [] at bare was h =
       take-kept image Are All expands p (turn-kept image Are ((λ site at. act_alone), tt) ((λ site at. act_alone), tt)) (λ deadline mark. (refl, (refl, tt))) e.moved tt tt was
-  goes-framed p e (Todo.show q rest ∷ todo) bare was h =
+  goes-framed p e (Todo.show q rest ∷ todo) at bare was h =
       show-kept image Are All expands p e q rest todo Are tt waited-framed h.0
       (λ z k. let made = shown_step image q e.act in looks-kept image Are errand-framed (λ x y g. (tt, g)) p.context made e (behind_step image p.context made e.moved z)
         (behind-kept image Are errand-framed (λ x y g. (tt, g)) p.context made e.moved z k))
       (λ read. away-framed (thread_in e.word).doomed) h.1
-  goes-framed p e (Todo.read_claim d ∷ todo) bare was h = claim-kept image Are (λ z k. k.1) p e d todo (λ x at. (subst (λ (o : Option ℕ). Behind image (Todo.read_claim o) todo) at h.0, h.1)) h.1
-  goes-framed p e (Todo.pass who x ∷ todo) bare was h = pass-kept image Are All expands p who x todo (λ y few k. (tt, k)) tt h.1
-  goes-framed p e (Todo.drop x ∷ todo) bare was h = drop-kept image Are All expands p (dropped_at image p.context x (is_visit e.act)) x todo (λ y few k. (tt, k)) tt h.1
-  goes-framed p e (Todo.clean_pair who x ∷ todo) bare was h = either image Are (nat_lt (x + 1) ROWS) (Todo.clean_pair who (x + 1)) todo (λ few k. (tt, k)) h.1
-  goes-framed p e (Todo.rouse who ∷ todo) bare was h = goes-kept image Are All expands p errand-framed e (Todo.rouse who) todo refl tt (λ found z k. (bare found, k)) h.1
-  goes-framed p e (q ∷ todo) bare was h = goes-kept image Are All expands p errand-framed e q todo refl tt (ends-else q refl) h.1
+  goes-framed p e (Todo.read_claim d ∷ todo) at bare was h = claim-kept image Are (λ z k. k.1) p e d todo (λ x same. (subst (λ (o : Option ℕ). Behind image (Todo.read_claim o) todo) same h.0, h.1)) h.1
+  goes-framed p e (Todo.pass who x ∷ todo) at bare was h = pass-kept image Are All expands p who x todo (λ y few k. (tt, k)) tt h.1
+  goes-framed p e (Todo.drop x ∷ todo) at bare was h = drop-kept image Are All expands p (dropped_at image p.context x (is_visit e.act)) x todo (λ y few k. (tt, k)) tt h.1
+  goes-framed p e (Todo.clean_pair who x ∷ todo) at bare was h = either image Are (nat_lt (x + 1) ROWS) (Todo.clean_pair who (x + 1)) todo (λ few k. (tt, k)) h.1
+  goes-framed p e (Todo.rouse who ∷ todo) at bare was h = goes-kept image Are All expands p errand-framed e (Todo.rouse who) todo refl tt (λ found z k. (bare who todo at found, k)) h.1
+  goes-framed p e (q ∷ todo) at bare was h = goes-kept image Are All expands p errand-framed e q todo refl tt (ends-else q refl) h.1
     where
       ends-else : (q : Todo) → is_rouse_step q ≡ false → EndsWell Are e q
       ends-else (Todo.show q rest) off = λ read. away-framed (thread_in e.word).doomed
@@ -174,11 +174,15 @@ module _ (image : Image) where
   with-cleaned-framed p e true h = cleaning-kept image (λ old new. Are old → Are new) (row_number e.site) (first-framed (row_number e.site)) later-framed p.todo h
 
   -- whatever a processor's step is, it leaves such a list
-  pub frames-next : (p : Processor) (e : FineStep) → RousesBare e → AreFramed image p.todo → AreFramed image (p_next image p e).todo
+  pub frames-next : (p : Processor) (e : FineStep) → RousesBare p e → AreFramed image p.todo → AreFramed image (p_next image p e).todo
   frames-next p e bare was =
       acted-kept image Are (with_cleaned image (goes_on_by image p e p.todo) e (begins_cleaning e)) e.act
-      (with-cleaned-framed (goes_on_by image p e p.todo) e (begins_cleaning e) (goes-framed p e p.todo bare was was))
+      (with-cleaned-framed (goes_on_by image p e p.todo) e (begins_cleaning e) (goes-framed p e p.todo refl bare was was))
 
-pub frames-kept : (f : Fine) (m : State) → Rel f m → (e : FineStep) → RousesBare f.image e → (k : ℕ) → k < f.cpus
+pub frames-kept : (f : Fine) (m : State) → Rel f m → (e : FineStep) → RousesBare f.image (f.processors e.cpu) e → (k : ℕ) → k < f.cpus
     → AreFramed f.image (changed same_cpu cpu_of (p_next f.image) f.processors e k).todo
-frames-kept f m rel e bare k l = changed-kept f (AreFramed f.image) e k (λ p was. frames-next f.image p e bare was) (rel.processors k l).frames
+frames-kept f m rel e bare k l = by (e.cpu == k) refl
+  where
+    by : (b : Bool) → (e.cpu == k) ≡ b → AreFramed f.image (cond b (p_next f.image (f.processors k) e) (f.processors k)).todo
+    by true q = frames-next f.image (f.processors k) e (subst (λ (j : ℕ). RousesBare f.image (f.processors j) e) (eqb-true e.cpu k q) bare) (rel.processors k l).frames
+    by false q = (rel.processors k l).frames
