@@ -14,7 +14,7 @@ use Rattle.um_refinement.specs.Timing.{IsHand}
 use Rattle.um_refinement.specs.Offers as O
 use Rattle.um_refinement.proofs.Erased.{Goes, GoesBy}
 use Rattle.um_refinement.proofs.ListFits.{behind-bare}
-use Rattle.um_refinement.proofs.StepsLeft.{is_first, offered-on}
+use Rattle.um_refinement.proofs.StepsLeft.{BeginsNothing, is_first, offered-on}
 
 abbrev has_some : Steps → Bool
 has_some [] = false
@@ -194,6 +194,29 @@ not-cut {f} {m} {c} of awake = by (cutters f c.thread) refl
 
 pub own-unless : {f : Fine} {m : State} {c : Context} → IsOf f m c → waits c.pending ≡ false → as_thread c ≡ own_part (thread_at m c.thread)
 own-unless {f} {m} {c} of awake = ap (λ n. as_thread (as_cut n c)) (sym (not-cut of awake)) ∙ of.own
+
+-- Where no thread's pending steps have one that it makes at rest, none of a processor with an event next has.
+pub begins-nothing : {f : Fine} {m : State} {k : ℕ} → Rel f m → k < f.cpus → ((t : ℕ) → BeginsNothing (thread_at m t).pending) → (q : Pending) (rest : Steps) (todo : Todos)
+    → (f.processors k).todo ≡ Todo.show q rest ∷ todo → BeginsNothing (f.processors k).context.pending
+begins-nothing {f} {m} {k} rel l all q rest todo at = by (waits c.pending) refl
+  where
+    c : Context
+    c = (f.processors k).context
+
+    on : is_over c ≡ false
+    on = offered-on f.image c q rest (subst (Fits f.image c) at (rel.processors k l).list.fits).0
+
+    of : IsOf f m c
+    of = (rel.contexts.running k l (runs-first rel l (Todo.show q rest) todo at (λ hand. hand))).of on
+
+    waiting : (steps : Steps) → waits steps ≡ true → BeginsNothing steps
+    waiting [] h = tt
+    waiting (Pending.Resume ∷ steps) h = tt
+    waiting (p ∷ steps) h = absurd (false≢true h)
+
+    by : (b : Bool) → waits c.pending ≡ b → BeginsNothing c.pending
+    by true w = waiting c.pending w
+    by false awake = subst BeginsNothing (sym (ap (λ (z : Thread). z.pending) (own-unless of awake))) (all c.thread)
 
 -- A processor's event of a pending step: what is known of it, where the relation holds. On its list stands that step or, where an aborted
 -- thread at rest is killed, the begin or the exit that it doesn't make.

@@ -1,5 +1,5 @@
 -- A thread that has a step of its own left isn't over: one that is offered, that visits rows, or that starts another one next.
-use Rattle.um_refinement.proofs.Words.{◌≡◌, ℕ, Bool, true, false, ◌∷◌, refl, ap, ◌∙◌, ◌&&◌, nat_lt, list_all, Image, ROWS, Pending, Steps, is_empty, State, Context, Fine, Todos, Drops, IsOffered, Passes, is_over, IsRun, and-false, subst, ThreadIx, Thread, Policy, [], ◌==◌, if◌then◌else◌, end_steps, fatal_steps}
+use Rattle.um_refinement.proofs.Words.{false≢true, waits, ◌≡◌, ℕ, Bool, true, false, ◌∷◌, refl, ap, ◌∙◌, ◌&&◌, nat_lt, list_all, Image, ROWS, Pending, Steps, is_empty, State, Context, Fine, Todos, Drops, IsOffered, Passes, is_over, IsRun, and-false, subst, ThreadIx, Thread, Policy, [], ◌==◌, if◌then◌else◌, end_steps, fatal_steps}
 use Rattle.um_refinement.specs.Offers as O
 
 -- it has a step
@@ -22,6 +22,36 @@ abbrev pub is_first : Pending → Bool
 is_first Pending.Begin = true
 is_first Pending.Exit = true
 is_first q = false
+
+-- no step that a thread makes at rest is among those that it makes next
+abbrev pub BeginsNothing : Steps → Type 0
+BeginsNothing [] = Unit {0}
+BeginsNothing (Pending.Begin ∷ rest) = ⊥
+BeginsNothing (Pending.Exit ∷ rest) = ⊥
+BeginsNothing (Pending.Inherit who ∷ rest) = BeginsNothing rest
+BeginsNothing (Pending.Drops from ∷ rest) = BeginsNothing rest
+BeginsNothing (q ∷ rest) = Unit {0}
+
+first-not : (q : Pending) (rest : Steps) → is_first q ≡ true → BeginsNothing (q ∷ rest) → ⊥
+first-not Pending.Begin rest h n = n
+first-not Pending.Exit rest h n = n
+first-not q rest h n = false≢true h
+
+-- so one that is offered such a step is at rest
+pub first-rests : (image : Image) (c : Context) (q : Pending) (rest : Steps) → IsOffered image c q rest → is_first q ≡ true → BeginsNothing c.pending → (c.pending ≡ []) × (c.ended ≡ false)
+first-rests image c q rest (O.goes e) first none = absurd (first-not q rest first (subst BeginsNothing e none))
+first-rests image c q rest (O.passed {who} e) first none = absurd (first-not q rest first (subst BeginsNothing e none))
+first-rests image c q rest (O.dropped {from} e) first none = absurd (first-not q rest first (subst BeginsNothing e none))
+first-rests image c _ _ (O.begins e on i) first none = (e, on)
+first-rests image c _ _ (O.exits e on i) first none = (e, on)
+
+-- and one that is offered any other step than to go on after a wait doesn't wait
+pub offered-awake : (image : Image) (c : Context) (q : Pending) (rest : Steps) → IsOffered image c q rest → waits (q ∷ rest) ≡ false → waits c.pending ≡ false
+offered-awake image c q rest (O.goes e) awake = ap waits e ∙ awake
+offered-awake image c q rest (O.passed e) awake = ap waits e
+offered-awake image c q rest (O.dropped e) awake = ap waits e
+offered-awake image c _ _ (O.begins e on i) awake = ap waits e
+offered-awake image c _ _ (O.exits e on i) awake = ap waits e
 
 -- what holds of all pending steps, and passes over visits, holds from the one that is offered on
 pub offered-left : (image : Image) (c : Context) (P : Steps → Type 0) → ((who : ThreadIx) (rest : Steps) → P (Pending.Inherit who ∷ rest) → P rest)
