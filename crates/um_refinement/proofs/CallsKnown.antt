@@ -65,6 +65,7 @@ module _ (image : Image) (lawful : IsLawful image) (sited : IsSited image) where
   thread-kind Kind.Msgq (Setup.Thread index) n h t = absurd (false≢true h)
   thread-kind Kind.Stack (Setup.Thread index) n h t = absurd (false≢true h)
   thread-kind Kind.Pipe (Setup.Thread index) n h t = absurd (false≢true h)
+  thread-kind Kind.Timer (Setup.Thread index) n h t = absurd (false≢true h)
   thread-kind kind setup n h t = absurd (false≢true (ap is_some t))
 
   some-same : {a b : ℕ} → Some a ≡ Some b → a ≡ b

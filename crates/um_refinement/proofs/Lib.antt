@@ -90,6 +90,7 @@ pub mod CallsKnown
 pub mod DomainsKnown
 pub mod CallSteps
 pub mod ChildSteps
+pub mod EachUncut
 pub mod ChildrenKnown
 pub mod CallsProper
 pub mod LawfulSteps
