@@ -1,9 +1,9 @@
 -- What a step of the access-matrix machine leaves of the contents of objects: all of them, but of the object of a call's work, of a thread
 -- object that gets a name, and of a row where an object is reserved or recycled; and which rows are free.
-use Rattle.um_refinement.proofs.Words.{◌≡◌, ℕ, Bool, true, false, Some, refl, ◌∙◌, slice_set, true≢false, Leftover, Ask, Addr, ThreadIx, Object, Status, Pending, Steps, Acted, State, object_at, with_object, cell_of, own_row, to_thread, false≢true, Edit, Effect, effect, wrote, bytes-leave, effects_of, next_of, woken-by, shared-went}
+use Rattle.um_refinement.proofs.Words.{ap, List, if◌then◌else◌, slice_index_or, slice_set, vacant, ◌≡◌, ℕ, Bool, true, false, Some, refl, ◌∙◌, slice_set, true≢false, Leftover, Ask, Addr, ThreadIx, Object, Status, Pending, Steps, Acted, State, object_at, with_object, cell_of, own_row, to_thread, false≢true, Edit, Effect, effect, wrote, bytes-leave, effects_of, next_of, woken-by, shared-went}
 use Rattle.um_machine.specs.Table as T
 use Rattle.um_refinement.proofs.ObjectsKept.{object-reads, set-kept}
-use Rattle.um_refinement.proofs.Writes.{Makes, Part, after-kept, births, objects, reads-after, statuses, with_cleaner, with_left}
+use Rattle.um_refinement.proofs.Writes.{Makes, Part, is_queue, after-kept, births, objects, reads-after, statuses, with_cleaner, with_left}
 
 -- all that a step may write but objects
 abbrev pub NoObjects : Part → Bool
@@ -24,8 +24,8 @@ pub record IsBeside {A : Type 0} (g : Object → A) : Type 0 where
   pub public : (o : Object) → g (record o { public = true }) ≡ g o
   pub init : (o : Object) (init : Bool) → g (record o { init = init }) ≡ g o
 
-pub cell-beside : IsBeside cell_of
-cell-beside = record { status = λ o status. refl; public = λ o. refl; init = λ o init. refl }
+pub cell-beside : (noted : List ℕ) → IsBeside (cell_of noted)
+cell-beside noted = record { status = λ o status. refl; public = λ o. refl; init = λ o init. refl }
 
 -- the steps that write more of objects
 abbrev pub is_filling : Pending → Bool
@@ -34,6 +34,9 @@ is_filling (Pending.Named who) = true
 is_filling (Pending.Reserve kind) = true
 is_filling (Pending.CleanPair who) = true
 is_filling Pending.Recycle = true
+is_filling (Pending.TimeOut who) = true
+is_filling Pending.Expire = true
+is_filling (Pending.Cut who) = true
 is_filling q = false
 
 module _ {A : Type 0} (g : Object → A) (beside : IsBeside g) where
@@ -42,6 +45,7 @@ module _ {A : Type 0} (g : Object → A) (beside : IsBeside g) where
   leaves (Effect.object x Edit.opens) = true
   leaves (Effect.object x (Edit.becomes status)) = true
   leaves (Effect.object x edit) = false
+  leaves (Effect.waiters c ws) = is_queue c
   leaves e = true
 
   left-so : (y : ℕ) (a : A) (e : Effect) (s : State) → leaves e ≡ true → g (object_at s y) ≡ a → g (object_at (effect e s) y) ≡ a
@@ -51,6 +55,8 @@ module _ {A : Type 0} (g : Object → A) (beside : IsBeside g) where
   left-so y a (Effect.object x (Edit.becomes status)) s h k = set-kept g s.objects x y _ (beside.status (object_at s x) status) ∙ k
   left-so y a (Effect.object x edit) s h k = absurd (false≢true h)
   left-so y a (Effect.bytes b bs) s h k = bytes-leave (λ (z : State). g (object_at z y)) (λ z bytes. refl) (λ z bytes. refl) s b bs ∙ k
+  left-so y a (Effect.waiters c ws) s h k =
+      ap (λ b. g (slice_index_or (if b then s.objects else slice_set s.objects c (record (object_at s c) { waiters = ws })) y vacant)) h ∙ k
   left-so y a e s h k = k
 
   -- a permission is dropped
@@ -66,6 +72,9 @@ module _ {A : Type 0} (g : Object → A) (beside : IsBeside g) where
   beside-kept m y t x (Pending.Reserve kind) rest h = absurd (true≢false h)
   beside-kept m y t x (Pending.CleanPair who) rest h = absurd (true≢false h)
   beside-kept m y t x Pending.Recycle rest h = absurd (true≢false h)
+  beside-kept m y t x (Pending.TimeOut who) rest h = absurd (true≢false h)
+  beside-kept m y t x Pending.Expire rest h = absurd (true≢false h)
+  beside-kept m y t x (Pending.Cut who) rest h = absurd (true≢false h)
   beside-kept m y t x q rest h = reads-after (λ (s : State). g (object_at s y)) leaves (left-so y) (λ s threads. refl) m t x q rest refl
 
   -- and so does the cleaning of an object, where it leaves who cleans

@@ -37,6 +37,8 @@ object-reads may g y v edits becomes none =
       bytes = λ may s a bs k. bytes-leave (λ (z : State). g (object_at z y)) (λ z bytes. refl) (λ z bytes. refl) s a bs ∙ k;
       pool = λ may s left k. k;
       parts = λ may s d ps k. k;
+      queue = λ may s joins futexes k. k;
+      clock = λ may s now armed k. k;
     }
 
 module _ (m : State) (y : ℕ) where
