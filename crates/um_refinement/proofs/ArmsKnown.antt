@@ -1,6 +1,7 @@
 -- In every state that a run reaches, the steps that are left of each thread's call stand to its deadline as those of its line do: each step of the machine
 -- keeps that.
-use Rattle.um_refinement.proofs.Words.{◌≡◌, ◌⊎◌, inl, inr, ℕ, ◌+◌, Bool, true, false, List, [], ◌∷◌, Option, Some, None, refl, sym, ap, ◌∙◌, subst, if◌then◌else◌, nat_lt, false≢true, true≢false, Ask, THREADS, Policy, Answer, Found, Addr, Image, Instr, Errno, Told, Event, Pending, Thread, Steps, Change, Next, Way, checked_way, told_way, end_steps, fatal_steps, steps_by, way-left, instruction_at, nobody, opening, Offers, goes, skips_drops, skips_inherit, begins, exits, tends, Runs, State, thread_at, with_thread, Ignores, all_other, each-after, next_of, gone, at_set, text_change, work_change}
+use Rattle.um_base.specs.declared.names.Timeout.{Timeout}
+use Rattle.um_refinement.proofs.Words.{Act, Reply, ThreadIx, ◌≡◌, ◌⊎◌, inl, inr, ℕ, ◌+◌, Bool, true, false, List, [], ◌∷◌, Option, Some, None, refl, sym, ap, ◌∙◌, subst, if◌then◌else◌, nat_lt, false≢true, true≢false, Ask, THREADS, Policy, Answer, Found, Addr, Image, Instr, Errno, Told, Event, Pending, Thread, Steps, Change, Next, Way, checked_way, told_way, end_steps, fatal_steps, steps_by, way-left, instruction_at, nobody, opening, Offers, goes, skips_drops, skips_inherit, begins, exits, tends, Runs, State, thread_at, with_thread, Ignores, all_other, each-after, next_of, gone, at_set, text_change, work_change}
 use Rattle.um_machine.specs.Goes as G
 use Rattle.um_machine.specs.Goes.{reserve_change}
 use Rattle.um_machine.specs.Order.{to_deadline}
@@ -22,15 +23,15 @@ AreTimed s = (u : ℕ) → IsTimed (timing_of (thread_at s u))
 
 -- What has to be known of a call that goes on so.
 
-abbrev sets_until : Change → Bool
+abbrev pub sets_until : Change → Bool
 sets_until (Change.until deadline) = true
 sets_until change = false
 
-data GoesOn (until : Option ℕ) (left : Steps) : Change → Way → Type 0 where
+pub data GoesOn (until : Option ℕ) (left : Steps) : Change → Way → Type 0 where
   keeps : {change : Change} {way : Way} → sets_until change ≡ false → Unarmed until left → GoesOn until left change way
   arms : {deadline : Option ℕ} {way : Way} → Acts (steps_by left way) → GoesOn until left (Change.until deadline) way
 
-abbrev Fits : Option ℕ → Steps → Next → Type 0
+abbrev pub Fits : Option ℕ → Steps → Next → Type 0
 Fits until left (Next.on change way) = GoesOn until left change way
 Fits until left (Next.answers to reply) = Calm left
 Fits until left (Next.begins instr) = until ≡ None
@@ -46,10 +47,10 @@ until-same Change.nothing me off = refl
 until-same (Change.until deadline) me off = absurd (true≢false off)
 until-same change me off = refl
 
-ends-calm : (image : Image) (t : ℕ) (me : Thread) (reason : ℕ) (policy : Policy) → Calm (fatal_steps image t me reason policy)
+pub ends-calm : (image : Image) (t : ℕ) (me : Thread) (reason : ℕ) (policy : Policy) → Calm (fatal_steps image t me reason policy)
 ends-calm image t me = fatal-left Calm image t me tt tt
 
-dooms-calm : (b : Bool) (from : ℕ) → Calm (if b then Pending.Dooms (from + 1) ∷ [] else [])
+pub dooms-calm : (b : Bool) (from : ℕ) → Calm (if b then Pending.Dooms (from + 1) ∷ [] else [])
 dooms-calm true from = tt
 dooms-calm false from = tt
 
@@ -82,54 +83,45 @@ gone-timed left u t Next.stays me h was = was
 ignores : Ignores timing_of all_other
 ignores = record { due = λ h me due. refl; told = λ h me told. refl; domain = λ h me domain. refl; doomed = λ h me. refl; flagged = λ h me aborted suspended. refl }
 
-keeps-if : (b : Bool) (one other : Change) → sets_until one ≡ false → sets_until other ≡ false → sets_until (if b then one else other) ≡ false
+pub keeps-if : (b : Bool) (one other : Change) → sets_until one ≡ false → sets_until other ≡ false → sets_until (if b then one else other) ≡ false
 keeps-if true one other h g = h
 keeps-if false one other h g = g
 
-keeps-text : (came : List ℕ) (found : Found) → sets_until (text_change came found) ≡ false
+pub keeps-text : (came : List ℕ) (found : Found) → sets_until (text_change came found) ≡ false
 keeps-text came (Found.Length n) = refl
 keeps-text came Found.Unreadable = refl
 keeps-text came Found.TooLong = refl
 
-keeps-work : (answer : Answer) (came : List ℕ) → sets_until (work_change answer came) ≡ false
+pub keeps-work : (answer : Answer) (came : List ℕ) → sets_until (work_change answer came) ≡ false
 keeps-work Answer.Wait came = refl
 keeps-work (Answer.Now reply) came = refl
 
-keeps-reserve : (a : Option Addr) → sets_until (reserve_change a) ≡ false
+pub keeps-reserve : (a : Option Addr) → sets_until (reserve_change a) ≡ false
 keeps-reserve None = refl
 keeps-reserve (Some a) = refl
 
--- behind an act none is armed for the next step
-acted : (until : Option ℕ) (rest : Steps) (ask : Ask) (a : Addr) → Timed until (Pending.Work a ask ∷ rest) → Unarmed until rest
-acted until rest ask a (inl (inl h)) = inl (h.0, h.1.1)
-acted until rest ask a (inl (inr h)) = absurd h
-acted until rest ask a (inr h) = inr h
+-- What is known of a step that a call with this deadline is offered.
+abbrev pub Stands : Option ℕ → Pending → Steps → Type 0
+Stands until Pending.Begin rest = until ≡ None
+Stands until Pending.Exit rest = Unit {0}
+Stands until Pending.Killed rest = Unit {0}
+Stands until (Pending.CleanPair who) rest = Unit {0}
+Stands until Pending.Recycle rest = Unit {0}
+Stands until Pending.Left rest = Unit {0}
+Stands until Pending.Tick rest = Unit {0}
+Stands until (Pending.TimeOut who) rest = Unit {0}
+Stands until Pending.Expire rest = Unit {0}
+Stands until (Pending.Cut who) rest = Unit {0}
+Stands until q rest = Timed until (q ∷ rest)
 
-module _ (m : State) (t x : ℕ) where
-  abbrev me : Thread
-  me = thread_at m t
+module _ (until : Option ℕ) where
+  none-by : (q : Pending) (rest : Steps) → (Ends (q ∷ rest) → ⊥) → (Acts (q ∷ rest) → ⊥) → Timed until (q ∷ rest) → until ≡ None
+  none-by q rest no_end no_act (inl (inl h)) = h.0
+  none-by q rest no_end no_act (inl (inr h)) = absurd (no_end h)
+  none-by q rest no_end no_act (inr h) = absurd (no_act h)
 
-  -- what is known of a step that the thread is offered
-  abbrev pub Stands : Pending → Steps → Type 0
-  Stands Pending.Begin rest = (thread_at m t).until ≡ None
-  Stands Pending.Exit rest = Unit {0}
-  Stands Pending.Killed rest = Unit {0}
-  Stands (Pending.CleanPair who) rest = Unit {0}
-  Stands Pending.Recycle rest = Unit {0}
-  Stands Pending.Left rest = Unit {0}
-  Stands Pending.Tick rest = Unit {0}
-  Stands (Pending.TimeOut who) rest = Unit {0}
-  Stands Pending.Expire rest = Unit {0}
-  Stands (Pending.Cut who) rest = Unit {0}
-  Stands q rest = Timed (thread_at m t).until (q ∷ rest)
-
-  begins-none : (rest : Steps) → Timed me.until (Pending.Begin ∷ rest) → me.until ≡ None
-  begins-none rest (inl (inl h)) = h.0
-  begins-none rest (inl (inr h)) = absurd h
-  begins-none rest (inr h) = absurd h
-
-  stands : (q : Pending) (rest : Steps) → Timed me.until (q ∷ rest) → Stands q rest
-  stands Pending.Begin rest h = begins-none rest h
+  pub stands : (q : Pending) (rest : Steps) → Timed until (q ∷ rest) → Stands until q rest
+  stands Pending.Begin rest h = none-by Pending.Begin rest (λ z. z) (λ z. z) h
   stands Pending.Exit rest h = tt
   stands Pending.Killed rest h = tt
   stands (Pending.CleanPair who) rest h = tt
@@ -141,29 +133,117 @@ module _ (m : State) (t x : ℕ) where
   stands (Pending.Cut who) rest h = tt
   stands q rest h = h
 
-  at-rest : Timed me.until [] → me.until ≡ None
-  at-rest (inl h) = rests-unarmed me.until h
+  pub at-rest : Timed until [] → until ≡ None
+  at-rest (inl h) = rests-unarmed until h
   at-rest (inr h) = absurd h
 
-  passed-inherit : (who : _) (rest : Steps) → Timed me.until (Pending.Inherit who ∷ rest) → Timed me.until rest
+  pub passed-inherit : (who : ThreadIx) (rest : Steps) → Timed until (Pending.Inherit who ∷ rest) → Timed until rest
   passed-inherit who rest (inl h) = inl h
   passed-inherit who rest (inr h) = absurd h
 
-  passed-drops : (from : ℕ) (rest : Steps) → Timed me.until (Pending.Drops from ∷ rest) → Timed me.until rest
+  pub passed-drops : (from : ℕ) (rest : Steps) → Timed until (Pending.Drops from ∷ rest) → Timed until rest
   passed-drops from rest (inl h) = inl h
   passed-drops from rest (inr h) = absurd h
 
-  pub offered-timed : Timed me.until me.pending → (q : Pending) (rest : Steps) → Offers m t q rest → Stands q rest
+  answered : (rest : Steps) (reply : Option Reply) (to : Option ℕ) → Timed until (Pending.Answer reply to ∷ rest) → Calm rest
+  answered rest reply to (inl (inl h)) = h.1
+  answered rest reply to (inl (inr h)) = subst Calm (sym h) tt
+  answered rest reply to (inr h) = absurd h
+
+  armed : (ticks : ℕ) (rest : Steps) → Timed until (Pending.Arm ticks ∷ rest) → Acts rest
+  armed ticks rest (inl (inl h)) = h.1
+  armed ticks rest (inl (inr h)) = absurd h
+  armed ticks rest (inr h) = absurd h
+
+  timer-armed : (ticks deadline : ℕ) (rest : Steps) → Timed until (Pending.ArmTimer ticks ∷ rest) → Acts (to_deadline deadline rest)
+  timer-armed ticks deadline rest (inl (inl h)) = by rest h.1
+    where
+      by : (rest : Steps) → StartsTimer rest → Acts (to_deadline deadline rest)
+      by (Pending.Work a (Ask.TimerStart before) ∷ rest) h = h
+      by rest h = absurd h
+  timer-armed ticks deadline rest (inl (inr h)) = absurd h
+  timer-armed ticks deadline rest (inr h) = absurd h
+
+  -- behind an act none is armed for the next step
+  acted : (rest : Steps) (ask : Ask) (a : Addr) → Timed until (Pending.Work a ask ∷ rest) → Unarmed until rest
+  acted rest ask a (inl (inl h)) = inl (h.0, h.1.1)
+  acted rest ask a (inl (inr h)) = absurd h
+  acted rest ask a (inr h) = inr h
+
+  joined : (rest : Steps) (who : ThreadIx) (timeout : Timeout) → Timed until (Pending.Join who timeout ∷ rest) → Unarmed until rest
+  joined rest who timeout (inl (inl h)) = inl h
+  joined rest who timeout (inl (inr h)) = absurd h
+  joined rest who timeout (inr h) = inr h
+
+  watched : (rest : Steps) (a : Addr) (value : ℕ) (timeout : Timeout) → Timed until (Pending.FutexWait a value timeout ∷ rest) → Unarmed until rest
+  watched rest a value timeout (inl (inl h)) = inl h
+  watched rest a value timeout (inl (inr h)) = absurd h
+  watched rest a value timeout (inr h) = inr h
+
+  -- so of each step that a thread goes on from
+  module _ (image : Image) (t : ℕ) (me : Thread) (x : ℕ) (act : Act) (came : List ℕ) where
+    pub fits : (q : Pending) (rest : Steps) → Stands until q rest → Fits until rest (T.continues image t me x q act came)
+    fits Pending.Begin rest h = h
+    fits Pending.Exit rest h = tt
+    fits Pending.Killed rest h = tt
+    fits (Pending.Fatal reason cause) rest h = tt
+    fits (Pending.CleanPair who) rest h = tt
+    fits Pending.Recycle rest h = tt
+    fits Pending.Left rest h = tt
+    fits Pending.Tick rest h = tt
+    fits (Pending.TimeOut who) rest h = tt
+    fits Pending.Expire rest h = tt
+    fits (Pending.Cut who) rest h = tt
+    fits (Pending.Answer reply to) rest h = answered rest reply to h
+    fits (Pending.Dooms from) rest h = none-by (Pending.Dooms from) rest (λ z. z) (λ z. z) h
+    fits (Pending.EnterUser script) rest h = none-by (Pending.EnterUser script) rest (λ z. z) (λ z. z) h
+    fits (Pending.Arm ticks) rest h = arms (armed ticks rest h)
+    fits (Pending.ArmTimer ticks) rest h = arms (timer-armed ticks _ rest h)
+    fits (Pending.Work a ask) rest h = keeps (keeps-work _ _) (acted rest ask a h)
+    fits (Pending.Join who timeout) rest h = keeps (keeps-work _ _) (joined rest who timeout h)
+    fits (Pending.FutexWait a value timeout) rest h = keeps (keeps-work _ _) (watched rest a value timeout h)
+    fits (Pending.FutexWake a all) rest (inl h) = keeps (keeps-work _ _) h
+    fits (Pending.FutexWake a all) rest (inr h) = absurd h
+    fits (Pending.Load to a n) rest (inl h) = keeps (keeps-if _ Change.nothing (Change.register to _) refl refl) h
+    fits (Pending.Load to a n) rest (inr h) = absurd h
+    fits (Pending.CopyIn a amount) rest (inl h) = keeps (keeps-if _ (Change.copies _) Change.nothing refl refl) h
+    fits (Pending.CopyIn a amount) rest (inr h) = absurd h
+    fits (Pending.CopyStr a) rest (inl h) = keeps (keeps-text _ _) h
+    fits (Pending.CopyStr a) rest (inr h) = absurd h
+    fits (Pending.Reserve kind) rest (inl h) = keeps (keeps-reserve _) h
+    fits (Pending.Reserve kind) rest (inr h) = absurd h
+    fits (Pending.Check a kind want refusal) rest (inl h) = h
+    fits (Pending.Check a kind want refusal) rest (inr h) = absurd h
+    fits (Pending.ClearInit a) rest (inl h) = h
+    fits (Pending.ClearInit a) rest (inr h) = absurd h
+    fits Pending.Resume rest (inl h) = h
+    fits Pending.Resume rest (inr h) = absurd h
+    fits (Pending.Own who) rest (inl h) = h
+    fits (Pending.Own who) rest (inr h) = absurd h
+    fits (Pending.Start who script stack priority mode) rest (inl h) = h
+    fits (Pending.Start who script stack priority mode) rest (inr h) = absurd h
+    fits (Pending.Inherit who) rest (inl h) = h
+    fits (Pending.Inherit who) rest (inr h) = absurd h
+    fits (Pending.Drops from) rest (inl h) = h
+    fits (Pending.Drops from) rest (inr h) = absurd h
+    fits q rest (inl h) = keeps refl h
+    fits q rest (inr h) = absurd h
+
+module _ (m : State) (t x : ℕ) where
+  abbrev me : Thread
+  me = thread_at m t
+
+  pub offered-timed : Timed me.until me.pending → (q : Pending) (rest : Steps) → Offers m t q rest → Stands (thread_at m t).until q rest
   offered-timed h q rest offers = by offers
     where
       at : (steps : Steps) → (thread_at m t).pending ≡ steps → Timed me.until steps
       at steps e = subst (Timed me.until) e h
 
-      by : {q : Pending} {rest : Steps} → Offers m t q rest → Stands q rest
-      by (goes {p} {rest} e) = stands p rest (at (p ∷ rest) e)
-      by (skips_inherit {who} {p} {rest} e due) = stands p rest (passed-inherit who (p ∷ rest) (at (Pending.Inherit who ∷ p ∷ rest) e))
-      by (skips_drops {from} {p} {rest} e due) = stands p rest (passed-drops from (p ∷ rest) (at (Pending.Drops from ∷ p ∷ rest) e))
-      by (begins e lives may there) = at-rest (at [] e)
+      by : {q : Pending} {rest : Steps} → Offers m t q rest → Stands (thread_at m t).until q rest
+      by (goes {p} {rest} e) = stands me.until p rest (at (p ∷ rest) e)
+      by (skips_inherit {who} {p} {rest} e due) = stands me.until p rest (passed-inherit me.until who (p ∷ rest) (at (Pending.Inherit who ∷ p ∷ rest) e))
+      by (skips_drops {from} {p} {rest} e due) = stands me.until p rest (passed-drops me.until from (p ∷ rest) (at (Pending.Drops from ∷ p ∷ rest) e))
+      by (begins e lives may there) = at-rest me.until (at [] e)
       by (exits e lives may there) = tt
       by (stops e lives must) = tt
       by (leaves ends) = tt
@@ -175,86 +255,8 @@ module _ (m : State) (t x : ℕ) where
       by (tends {p = Pending.Cut who} is started) = tt
       by (tends {p = q} is started) = absurd (false≢true is)
 
-  answered : (rest : Steps) (reply : _) (to : _) → Timed me.until (Pending.Answer reply to ∷ rest) → Calm rest
-  answered rest reply to (inl (inl h)) = h.1
-  answered rest reply to (inl (inr h)) = subst Calm (sym h) tt
-  answered rest reply to (inr h) = absurd h
-
-  none-by : (q : Pending) (rest : Steps) → (Ends (q ∷ rest) → ⊥) → (Acts (q ∷ rest) → ⊥) → Timed me.until (q ∷ rest) → me.until ≡ None
-  none-by q rest no_end no_act (inl (inl h)) = h.0
-  none-by q rest no_end no_act (inl (inr h)) = absurd (no_end h)
-  none-by q rest no_end no_act (inr h) = absurd (no_act h)
-
-  armed : (ticks : ℕ) (rest : Steps) → Timed me.until (Pending.Arm ticks ∷ rest) → Acts rest
-  armed ticks rest (inl (inl h)) = h.1
-  armed ticks rest (inl (inr h)) = absurd h
-  armed ticks rest (inr h) = absurd h
-
-  timer-armed : (ticks deadline : ℕ) (rest : Steps) → Timed me.until (Pending.ArmTimer ticks ∷ rest) → Acts (to_deadline deadline rest)
-  timer-armed ticks deadline rest (inl (inl h)) = by rest h.1
-    where
-      by : (rest : Steps) → StartsTimer rest → Acts (to_deadline deadline rest)
-      by (Pending.Work a (Ask.TimerStart before) ∷ rest) h = h
-      by rest h = absurd h
-  timer-armed ticks deadline rest (inl (inr h)) = absurd h
-  timer-armed ticks deadline rest (inr h) = absurd h
-
-  joined : (rest : Steps) (who : _) (timeout : _) → Timed me.until (Pending.Join who timeout ∷ rest) → Unarmed me.until rest
-  joined rest who timeout (inl (inl h)) = inl h
-  joined rest who timeout (inl (inr h)) = absurd h
-  joined rest who timeout (inr h) = inr h
-
-  watched : (rest : Steps) (a : Addr) (value : ℕ) (timeout : _) → Timed me.until (Pending.FutexWait a value timeout ∷ rest) → Unarmed me.until rest
-  watched rest a value timeout (inl (inl h)) = inl h
-  watched rest a value timeout (inl (inr h)) = absurd h
-  watched rest a value timeout (inr h) = inr h
-
-  fits : (q : Pending) (rest : Steps) → Stands q rest → Fits me.until rest (next_of m t x q)
-  fits Pending.Begin rest h = h
-  fits Pending.Exit rest h = tt
-  fits Pending.Killed rest h = tt
-  fits (Pending.Fatal reason cause) rest h = tt
-  fits (Pending.CleanPair who) rest h = tt
-  fits Pending.Recycle rest h = tt
-  fits Pending.Left rest h = tt
-  fits Pending.Tick rest h = tt
-  fits (Pending.TimeOut who) rest h = tt
-  fits Pending.Expire rest h = tt
-  fits (Pending.Cut who) rest h = tt
-  fits (Pending.Answer reply to) rest h = answered rest reply to h
-  fits (Pending.Dooms from) rest h = none-by (Pending.Dooms from) rest (λ z. z) (λ z. z) h
-  fits (Pending.EnterUser script) rest h = none-by (Pending.EnterUser script) rest (λ z. z) (λ z. z) h
-  fits (Pending.Arm ticks) rest h = arms (armed ticks rest h)
-  fits (Pending.ArmTimer ticks) rest h = arms (timer-armed ticks _ rest h)
-  fits (Pending.Work a ask) rest h = keeps (keeps-work _ _) (acted me.until rest ask a h)
-  fits (Pending.Join who timeout) rest h = keeps (keeps-work _ _) (joined rest who timeout h)
-  fits (Pending.FutexWait a value timeout) rest h = keeps (keeps-work _ _) (watched rest a value timeout h)
-  fits (Pending.FutexWake a all) rest (inl h) = keeps (keeps-work _ _) h
-  fits (Pending.FutexWake a all) rest (inr h) = absurd h
-  fits (Pending.Load to a n) rest (inl h) = keeps (keeps-if _ Change.nothing (Change.register to _) refl refl) h
-  fits (Pending.Load to a n) rest (inr h) = absurd h
-  fits (Pending.CopyIn a amount) rest (inl h) = keeps (keeps-if _ (Change.copies _) Change.nothing refl refl) h
-  fits (Pending.CopyIn a amount) rest (inr h) = absurd h
-  fits (Pending.CopyStr a) rest (inl h) = keeps (keeps-text _ _) h
-  fits (Pending.CopyStr a) rest (inr h) = absurd h
-  fits (Pending.Reserve kind) rest (inl h) = keeps (keeps-reserve _) h
-  fits (Pending.Reserve kind) rest (inr h) = absurd h
-  fits (Pending.Check a kind want refusal) rest (inl h) = h
-  fits (Pending.Check a kind want refusal) rest (inr h) = absurd h
-  fits (Pending.ClearInit a) rest (inl h) = h
-  fits (Pending.ClearInit a) rest (inr h) = absurd h
-  fits Pending.Resume rest (inl h) = h
-  fits Pending.Resume rest (inr h) = absurd h
-  fits (Pending.Own who) rest (inl h) = h
-  fits (Pending.Own who) rest (inr h) = absurd h
-  fits (Pending.Start who script stack priority mode) rest (inl h) = h
-  fits (Pending.Start who script stack priority mode) rest (inr h) = absurd h
-  fits (Pending.Inherit who) rest (inl h) = h
-  fits (Pending.Inherit who) rest (inr h) = absurd h
-  fits (Pending.Drops from) rest (inl h) = h
-  fits (Pending.Drops from) rest (inr h) = absurd h
-  fits q rest (inl h) = keeps refl h
-  fits q rest (inr h) = absurd h
+  made : (q : Pending) (rest : Steps) → Stands me.until q rest → Fits me.until rest (next_of m t x q)
+  made q rest h = fits me.until m.image t me x (T.act_of m t x q) (T.came_with m t q) q rest h
 
   module _ (all : AreTimed m) where
     set : (s : State) → AreTimed s → (v : ℕ) (th : Thread) → IsTimed (timing_of th) → AreTimed (with_thread s v th)
@@ -265,21 +267,21 @@ module _ (m : State) (t x : ℕ) where
     started until was rest (inr none) (inl h) = inl (none, h.1)
     started until was rest same (inr h) = inr h
 
-    timed-after : (q : Pending) (rest : Steps) → Stands q rest → AreTimed (T.after m t x q rest)
+    timed-after : (q : Pending) (rest : Steps) → Stands me.until q rest → AreTimed (T.after m t x q rest)
     timed-after (Pending.Start who script stack priority mode) rest h =
         let child = T.newborn m me who.0 script (Pending.Start who script stack priority mode) in
         let s = with_thread m who.0 child in
         let until : ((thread_at s t).until ≡ me.until) ⊎ ((thread_at s t).until ≡ None) =
         at_set (λ n (z : Thread). (z.until ≡ (thread_at m n).until) ⊎ (z.until ≡ None)) m.threads who.0 t child nobody (inr refl) (inl refl) in
         set s (set m all who.0 child (inl (inl (refl, tt)))) t (T.at_steps s.image (record (thread_at s t) { child = None }) rest)
-        (inl (started (thread_at s t).until me.until rest until (fits (Pending.Start who script stack priority mode) rest h)))
+        (inl (started (thread_at s t).until me.until rest until (made (Pending.Start who script stack priority mode) rest h)))
     timed-after (Pending.Cut who) rest h =
         each-after timing_of IsTimed ignores m t x (Pending.Cut who) rest (λ who script stack priority mode. inl (inl (refl, tt)))
         (λ th was. inl (inr tt)) all (λ u th image same was. was)
     timed-after q rest h =
         each-after timing_of IsTimed ignores m t x q rest (λ who script stack priority mode. inl (inl (refl, tt)))
         (λ th was. inl (inr tt)) all
-        (λ u th image same was. gone-timed rest u t (next_of m t x q) th (subst (λ (c : Option ℕ × Steps). Fits c.0 rest (next_of m t x q)) (sym same) (fits q rest h)) was)
+        (λ u th image same was. gone-timed rest u t (next_of m t x q) th (subst (λ (c : Option ℕ × Steps). Fits c.0 rest (next_of m t x q)) (sym same) (made q rest h)) was)
 
 -- Along a run.
 
