@@ -1,5 +1,6 @@
 -- What stands behind the entry of a list whose step a processor makes.
 use Rattle.um_refinement.proofs.Words.{◌≡◌, Bool, false, [], ◌∷◌, ◌∙◌, ap, refl, subst, sym, true, true≢false, Pending, Steps, State, is_word_read, says_show, Todo, Todos, FineStep, Fine, AreFramed, Behind, Fits}
+use Rattle.um_fine.specs.Answers.{is_killed}
 use Rattle.um_refinement.proofs.Erased.{around}
 use Rattle.um_refinement.proofs.Leaves.{Lawful}
 use Rattle.um_refinement.proofs.ListGrips.{read-rests}
@@ -35,9 +36,18 @@ module _ (f : Fine) (m : State) (e : FineStep) (law : Lawful f m e) where
 
   -- and nobody is woken by it
   pub last-read : (q : Todo) (todo : Todos) → p.todo ≡ q ∷ todo → LastRead f.image e q todo
-  last-read (Todo.show r rest) todo at = λ read. (is-behind.last-shown r rest todo at read, by r (made-says f m e law (Todo.show r rest ∷ todo) at) read)
+  last-read (Todo.show r rest) todo at = (
+    λ read. (is-behind.last-shown r rest todo at read, by r (made-says f m e law (Todo.show r rest ∷ todo) at) read),
+    λ killed. kills r (made-says f m e law (Todo.show r rest ∷ todo) at) killed,
+  )
     where
       by : (r : Pending) → e.act ≡ says_show f.image p r e.act → is_word_read e.act ≡ true → woken_by e (Todo.show r rest) ≡ []
       by (Pending.Work a ask) said read = absurd (true≢false (sym read ∙ ap is_word_read said))
+      by (Pending.FutexWake a all) said read = absurd (true≢false (sym read ∙ ap is_word_read said))
       by r said read = refl
+
+      kills : (r : Pending) → e.act ≡ says_show f.image p r e.act → is_killed e.act ≡ true → woken_by e (Todo.show r rest) ≡ []
+      kills (Pending.Work a ask) said killed = absurd (true≢false (sym killed ∙ ap is_killed said))
+      kills (Pending.FutexWake a all) said killed = absurd (true≢false (sym killed ∙ ap is_killed said))
+      kills r said killed = refl
   last-read q todo at = tt
