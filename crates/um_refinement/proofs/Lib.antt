@@ -61,6 +61,8 @@ pub mod HeapPart
 pub mod PairsPart
 pub mod Sums
 pub mod SchedulerSteps
+pub mod ListCuts
+pub mod WaitingSites
 pub mod StepReads
 pub mod ListRuns
 pub mod RunningPart
