@@ -27,7 +27,7 @@ module _ {f : Fine} {m : State} {k : ℕ} {e : FineStep} {q : Pending} {rest : S
   bytes-are = λ i. record { memory = h.rel.memory.memory i; stacks = h.rel.memory.stacks i; futexes = h.rel.memory.futexes i; noted = (bytes f).noted }
 
   -- what the cell of memory keeps after a step that is made there
-  bytes-after : (act : Act) → e.site ≡ Site.memory → act_in e.act ≡ act → bytes (stepped f.image f.cpus f.processors f.sites e) ≡ memory_after f.image (bytes f) act e.moved
+  pub bytes-after : (act : Act) → e.site ≡ Site.memory → act_in e.act ≡ act → bytes (stepped f.image f.cpus f.processors f.sites e) ≡ memory_after f.image (bytes f) act e.moved
   bytes-after act site said =
       let at = memory-sort (f.sites Site.memory) (h.rel.sorts Site.memory) in
       ap (λ c. bytes_state (cond c (s_next f.image (f.sites Site.memory) e) (f.sites Site.memory))) (ap (λ i. same_site i Site.memory) site ∙ same-itself Site.memory)

@@ -51,6 +51,14 @@ module _ (f : Fine) (m : State) (rel : Rel f m) (e : FineStep) (event : Event) (
       ap (λ (s : SiteState). bytes_state (site_after f.image s e.act e.moved)) (memory-sort (f.sites Site.memory) (rel.sorts Site.memory)).1
       ∙ ap (λ act. memory_after f.image (bytes f) (act_in act) e.moved) said
 
+  -- an event on memory, or elsewhere
+  pub bytes-put : e.site ≡ Site.memory → bytes (stepped f.image f.cpus f.processors f.sites e) ≡ memory_after f.image (bytes f) event.act e.moved
+  bytes-put site =
+      ap (λ c. bytes_state (cond c (s_next f.image (f.sites Site.memory) e) (f.sites Site.memory))) (ap (λ i. same_site i Site.memory) site ∙ same-itself Site.memory) ∙ bytes-is
+
+  pub bytes-else : same_site e.site Site.memory ≡ false → bytes (stepped f.image f.cpus f.processors f.sites e) ≡ bytes f
+  bytes-else off = ap (λ c. bytes_state (cond c (s_next f.image (f.sites Site.memory) e) (f.sites Site.memory))) off
+
   -- an event that has a place of its own: a resumed call, a visit, the end of a cleaning
   pub memory-beside : (q : Pending) (rest : Steps) (t x : ℕ) → memory_after f.image (bytes f) event.act e.moved ≡ bytes f → Untouched q
       → MemoryIs (stepped f.image f.cpus f.processors f.sites e) (T.after m t x q rest)
