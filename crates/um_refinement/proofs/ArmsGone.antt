@@ -1,10 +1,13 @@
 -- Own parts and deadlines: after an event no deadline is armed for a thread's next step, unless that event armed one for the act that comes next.
-use Rattle.um_refinement.proofs.Words.{◌≡◌, ◌⊎◌, inl, inr, ℕ, ◌+◌, Bool, true, false, List, [], ◌∷◌, Option, Some, None, refl, sym, ap, ◌∙◌, subst, if◌then◌else◌, nat_lt, not, not-true, false≢true, true≢false, Act, Ask, Image, Instr, Addr, Told, THREADS, Pending, Steps, Change, Next, Way, told_way, steps_by, way-left, Context, as_thread, came_in, changed_part, continues, gone_part, resumed, resumed_at, Exchange, waits, IsOffered}
+use Rattle.um_refinement.proofs.Words.{◌≡◌, ◌⊎◌, inl, inr, ℕ, ◌+◌, Bool, true, false, List, [], ◌∷◌, Option, Some, None, refl, sym, ap, ◌∙◌, subst, if◌then◌else◌, nat_lt, not, not-true, false≢true, true≢false, Act, Ask, Image, Instr, Addr, Told, THREADS, Pending, Steps, Change, Next, Way, told_way, steps_by, way-left, Context, as_thread, came_in, changed_part, continues, gone_part, resumed, resumed_at, Exchange, IsOffered, IsPutBack, IsTrue}
 use Rattle.um_machine.specs.Table as T
 use Rattle.um_fine.specs.Continues.{goes_on}
 use Rattle.um_fine.specs.Places.{armed_for, is_timer_start}
+use Rattle.um_fine.specs.Scheduler.{to_kill}
+use Rattle.um_fine.specs.Scheduler.{waits as is_waiting}
 use Rattle.um_refinement.specs.Offers as O
 use Rattle.um_refinement.specs.Timing.{armed_next, armed_step, is_act}
+use Rattle.um_refinement.proofs.Offered.{NotKilled}
 use Rattle.um_refinement.proofs.ArmSteps.{Acts, Calm, Timed, Unarmed, calm-steps, unarmed-ways}
 use Rattle.um_refinement.proofs.ArmsKnown.{Fits, GoesOn, Stands, arms, at-rest, dooms-calm, ends-calm, fits, keeps, keeps-if, keeps-reserve, keeps-text, keeps-work, passed-drops, passed-inherit, sets_until, stands}
 
@@ -100,7 +103,7 @@ module _ (image : Image) where
   step-keeps c q act came off = refl
 
   -- after the event of a step that arms none, where none is armed for one that is no act
-  pub event-unarmed : (c : Context) (q : Pending) (rest : Steps) (act : Act) (moved : Exchange) → is_arming q ≡ false → Stands c.until q rest → (is_act q ≡ false → IsNone c)
+  pub event-unarmed : (c : Context) (q : Pending) (rest : Steps) (act : Act) (moved : Exchange) → is_arming q ≡ false → Stands c.until q rest → (is_act q ≡ false → NotKilled q → IsNone c)
       → IsNone (continues image c 0 q rest act moved)
   event-unarmed c (Pending.Work a ask) rest act moved off h none =
       let came = came_in (Pending.Work a ask) moved in
@@ -109,9 +112,10 @@ module _ (image : Image) where
       part-on c rest _ _ (keeps-work _ _) (fits c.until image c.thread (as_thread c) 0 act (came_in (Pending.Join who timeout) moved) (Pending.Join who timeout) rest h)
   event-unarmed c (Pending.FutexWait a value timeout) rest act moved off h none =
       part-on c rest _ _ (keeps-work _ _) (fits c.until image c.thread (as_thread c) 0 act (came_in (Pending.FutexWait a value timeout) moved) (Pending.FutexWait a value timeout) rest h)
+  event-unarmed c Pending.Killed rest act moved off h none = part-calm (continues image c 0 Pending.Killed rest act moved) (inl (refl, tt))
   event-unarmed c q rest act moved off h none =
       let came = came_in q moved in
-      part-after c rest (T.continues image c.thread (as_thread c) 0 q act came) (step-keeps c q act came off) (fits c.until image c.thread (as_thread c) 0 act came q rest h) (none refl)
+      part-after c rest (T.continues image c.thread (as_thread c) 0 q act came) (step-keeps c q act came off) (fits c.until image c.thread (as_thread c) 0 act came q rest h) (none refl tt)
 
   -- after a step that arms one an act comes next
   pub arming-acts : (c : Context) (q : Pending) (rest : Steps) (act : Act) (moved : Exchange) → is_arming q ≡ true → Stands c.until q rest → Acts (continues image c 0 q rest act moved).pending
@@ -149,3 +153,21 @@ module _ (image : Image) where
   offered-none c (inr h) q rest off (O.dropped {from} e) = absurd (subst Acts e h)
   offered-none c (inr h) _ _ off (O.begins e on i) = absurd (subst Acts e h)
   offered-none c (inr h) _ _ off (O.exits e on i) = absurd (subst Acts e h)
+
+  -- one that was woken goes on with none
+  pub resumed-none : (c : Context) (told : Told) (rest : Steps) → c.pending ≡ Pending.Resume ∷ rest → Timed c.until c.pending → IsNone (resumed image c told)
+  resumed-none c told rest at timed = subst (λ (steps : Steps). IsNone (resumed_at image c told steps)) (sym at) (by (subst (Timed c.until) at timed))
+    where
+      by : Timed c.until (Pending.Resume ∷ rest) → IsNone (resumed_at image c told (Pending.Resume ∷ rest))
+      by (inl h) = part-calm (resumed_at image c told (Pending.Resume ∷ rest)) (way-left (Unarmed c.until) (unarmed-ways c.until) rest (told_way told.reply) h)
+      by (inr h) = absurd h
+
+  -- none is armed for who is put back, or is to be killed
+  pub put-back-none : (cut : Bool) (c : Context) → IsPutBack c → IsNone (to_kill cut c)
+  put-back-none true c h = refl
+  put-back-none false c (inl none) = ap (armed_next image c) none
+  put-back-none false c (inr waits) = by c.pending waits
+    where
+      by : (steps : Steps) → IsTrue (is_waiting steps) → armed_next image c steps ≡ None
+      by (Pending.Resume ∷ rest) h = refl
+      by steps h = absurd (false≢true h)

@@ -51,10 +51,10 @@ module _ (f : Fine) (m : State) (rel : Rel f m) where
   told-some t (suc n) h = first-some (wake_of t (f.processors n).todo) (told_by f t n) (told-some t n h)
 
   -- the thread that is taken is parked, and has been told this
-  record Taken (c : Context) (told : Told) : Type 0 where
-    of : IsOf f m c
-    uncut : cutters f c.thread ≡ 0
-    tells : (w : Told) × ((thread_at m c.thread).told ≡ Some w)
+  pub record Taken (c : Context) (told : Told) : Type 0 where
+    pub of : IsOf f m c
+    pub uncut : cutters f c.thread ≡ 0
+    pub tells : (w : Told) × ((thread_at m c.thread).told ≡ Some w)
 
   -- who was told something wasn't cut
   nobody-cut : (t : ℕ) → t < THREADS → (w : Told) × (told_by f t f.cpus ≡ Some w) → (cutters f t ≡ 0) × (is_cut (scheduler f) t ≡ false)
@@ -68,7 +68,7 @@ module _ (f : Fine) (m : State) (rel : Rel f m) where
       by zero none = (none, cut-none (is_cut (scheduler f) t) (omega (arith, none)))
       by (suc n) some = absurd (false≢true (ap is_some (sym ((rel.threads t few).cut.told (omega (arith, some))) ∙ w.1)))
 
-  first-taken : (ready : List ℕ) (c : Context) (told : Told) → IsTrue (has_ready (scheduler f) ready)
+  pub first-taken : (ready : List ℕ) (c : Context) (told : Told) → IsTrue (has_ready (scheduler f) ready)
       → first_ready (scheduler f) ready ≡ Exchange.thread c (Some told) → Taken c told
   first-taken [] c told has e = absurd (false≢true has)
   first-taken (t ∷ ready) c told has e =
