@@ -62,6 +62,7 @@ pub mod PairsPart
 pub mod Sums
 pub mod SchedulerSteps
 pub mod ListCuts
+pub mod CuttersKept
 pub mod WaitingSites
 pub mod StepReads
 pub mod ListRuns

@@ -56,7 +56,7 @@ over-unclaimed _ settled = refl
 over-unclaimed _ rereads = refl
 over-unclaimed _ both = refl
 
-access-grip : (over : Todos) → IsWaitOver over → grip (access_over over) ≡ true
+pub access-grip : (over : Todos) → IsWaitOver over → grip (access_over over) ≡ true
 access-grip _ nothing = refl
 access-grip _ settled = refl
 access-grip _ rereads = refl
