@@ -2,9 +2,11 @@
 -- mark as initialised, a thread that gets a permission or a name is one whose object it holds, or a static one, permissions are passed on to the
 -- thread that it starts next, each edit and each move is of one of the image's domains, and where the call is over it holds nothing. The steps
 -- of each line of a lawful image are.
+use Rattle.std.specs.Option.{option_and_then}
 use Rattle.um_base.specs.declared.names.Timeout.{Timeout}
+use Rattle.um_invariants.proofs.SitedImages.{index_small}
 use Rattle.um_machine.specs.Order.{aborts, answer_void, arms}
-use Rattle.um_refinement.proofs.Words.{◌≡◌, ◌⊎◌, inl, inr, ℕ, zero, suc, ◌+◌, ◌*◌, ◌<◌, Bool, true, false, List, [], ◌∷◌, ◌++◌, length, Option, Some, None, refl, sym, ap, ◌∙◌, subst, arith, ◌==◌, ◌&&◌, ◌||◌, ℤ, if◌then◌else◌, is_some, nat_lt, slice_get, slice_index_or, slice_set, unwrap_or, list_all, and_parts, false≢true, ltb-true, Cause, Ask, Image, Instr, Options, Errno, Kind, Mode, ThreadIx, IsLawful, is_lawful_line, is_within, own_row, row_at, thread_of_addr, Pending, Thread, Steps, answer_error, answer_zero, buffered, creates, privileged, steps_of, to_addr, to_thread, work, instruction_at, value_of, IsRow, IsSited, IsStatic, are_lawful_scripts, is_lawful_script, is_number_below, number_of, lines_of, script_lines, Names, keeps}
+use Rattle.um_refinement.proofs.Words.{THREADS, STATIC_THREADS, STATIC_ROWS, setup_at, setup_thread, thread_of_row, ◌-◌, ◌≡◌, ◌⊎◌, inl, inr, ℕ, zero, suc, ◌+◌, ◌*◌, ◌<◌, Bool, true, false, List, [], ◌∷◌, ◌++◌, length, Option, Some, None, refl, sym, ap, ◌∙◌, subst, arith, ◌==◌, ◌&&◌, ◌||◌, ℤ, if◌then◌else◌, is_some, nat_lt, slice_get, slice_index_or, slice_set, unwrap_or, list_all, and_parts, false≢true, ltb-true, Cause, Ask, Image, Instr, Options, Errno, Kind, Mode, ThreadIx, IsLawful, is_lawful_line, is_within, own_row, row_at, thread_of_addr, Pending, Thread, Steps, answer_error, answer_zero, buffered, creates, privileged, steps_of, to_addr, to_thread, work, instruction_at, value_of, IsRow, IsSited, IsStatic, are_lawful_scripts, is_lawful_script, is_number_below, number_of, lines_of, script_lines, Names, keeps}
 use Rattle.um_base.specs.declared.image.Script.{Script}
 use Rattle.um_base.specs.declared.names.Ref.{Ref}
 use Rattle.um_machine.specs.declared.thread.Place.{Place}
@@ -31,6 +33,9 @@ module _ (image : Image) where
   Proper checked (Pending.Expire ∷ rest) = ⊥
   Proper checked (Pending.Cut who ∷ rest) = ⊥
   Proper checked (Pending.Killed ∷ rest) = Unit {0}
+  Proper checked (Pending.Abort who ∷ rest) = (who.0 < THREADS) × Proper checked rest
+  Proper checked (Pending.Suspend who ∷ rest) = (who.0 < THREADS) × Proper checked rest
+  Proper checked (Pending.Continue who ∷ rest) = (who.0 < THREADS) × Proper checked rest
   Proper checked (Pending.Check a kind want refusal ∷ rest) =
       (x : ℕ) → row_at image a.0 ≡ Some x → slice_index_or (slice_set checked x true) x false ≡ true → Proper (slice_set checked x true) rest
   Proper checked (Pending.Work a ask ∷ rest) = Names image checked a.0 × Proper checked rest
@@ -68,9 +73,9 @@ module _ (image : Image) (checked : List Bool) where
   proper-arms (Timeout.Ticks ticks) steps h = h
   proper-arms Timeout.Forever steps h = h
 
-  proper-aborts : (t who : ℕ) → Proper image checked (aborts t who)
-  proper-aborts t who =
-      elim (who == t) as (λ b. Proper image checked (Pending.Abort (to_thread who) ∷ (if b then Pending.Killed ∷ [] else answer_void))) [ true ↦ tt | false ↦ refl ]
+  proper-aborts : (t who : ℕ) → who < THREADS → Proper image checked (aborts t who)
+  proper-aborts t who few =
+      elim (who == t) as (λ b. Proper image checked (Pending.Abort (to_thread who) ∷ (if b then Pending.Killed ∷ [] else answer_void))) [ true ↦ (few, tt) | false ↦ (few, refl) ]
 
   proper-inherit : (inherits : Bool) (who : ThreadIx) (rest : Steps) → StartsOne who rest → Proper image checked rest
       → Proper image checked ((if inherits then Pending.Inherit who ∷ [] else []) ++ rest)
@@ -100,7 +105,24 @@ owned image sited checked a x e h = by (sited.owns a x e)
     by (inl l) = inl l
     by (inr same) = inr (subst (IsRow image) (sym same) (sited.found a x e).0, ap (λ r. slice_index_or checked r false) same ∙ h)
 
-module _ (image : Image) (sited : IsSited image) (t : ℕ) (me : Thread) (none : Bare me.checked) where
+-- an address names one of the machine's threads
+row-below : (image : Image) → IsLawful image → (x : ℕ) (low inside : Bool) → nat_lt (STATIC_THREADS + (x - STATIC_ROWS)) THREADS ≡ inside → (o : Option ℕ)
+    → (if low then setup_thread (setup_at image x) else if inside then Some (STATIC_THREADS + (x - STATIC_ROWS)) else None) ≡ o → unwrap_or o 0 < THREADS
+row-below image lawful x low inside f None h = omega arith
+row-below image lawful x true inside f (Some w) h = let small = index_small image.objects 0 x w lawful.indices h in omega (arith, small)
+row-below image lawful x false true f (Some w) h =
+    let below = ltb-true (STATIC_THREADS + (x - STATIC_ROWS)) THREADS f in
+    let same : STATIC_THREADS + (x - STATIC_ROWS) ≡ w = ap (λ (o : Option ℕ). unwrap_or o 0) h in omega (arith, below, same)
+row-below image lawful x false false f (Some w) h = absurd (false≢true (ap is_some h))
+
+pub thread-below : (image : Image) → IsLawful image → (a : ℕ) → thread_of_addr image a < THREADS
+thread-below image lawful a = by (row_at image a)
+  where
+    by : (o : Option ℕ) → unwrap_or (option_and_then (thread_of_row image) o) 0 < THREADS
+    by None = omega arith
+    by (Some x) = row-below image lawful x (nat_lt x STATIC_ROWS) (nat_lt (STATIC_THREADS + (x - STATIC_ROWS)) THREADS) refl (thread_of_row image x) refl
+
+module _ (image : Image) (sited : IsSited image) (below : (a : ℕ) → thread_of_addr image a < THREADS) (t : ℕ) (me : Thread) (none : Bare me.checked) where
   pub proper-steps : (i : ℕ) (instr : Instr) → is_lawful_line image i instr ≡ true → Proper image me.checked (steps_of image t me instr)
   proper-steps i (Instr.Set to value) lawful = none
   proper-steps i (Instr.Add to value) lawful = none
@@ -151,10 +173,10 @@ module _ (image : Image) (sited : IsSited image) (t : ℕ) (me : Thread) (none :
   proper-steps i (Instr.StackPop object addr timeout) lawful = λ x e h. proper-arms image (slice_set me.checked x true) timeout _ ((x, e, h), refl)
   proper-steps i (Instr.PipeWrite object addr length timeout) lawful = λ x e h. proper-arms image (slice_set me.checked x true) timeout _ ((x, e, h), refl)
   proper-steps i (Instr.PipeRead object addr length timeout) lawful = λ x e h. proper-arms image (slice_set me.checked x true) timeout _ ((x, e, h), refl)
-  proper-steps i (Instr.Abort thread) lawful = λ x e h. proper-aborts image (slice_set me.checked x true) t _
+  proper-steps i (Instr.Abort thread) lawful = λ x e h. proper-aborts image (slice_set me.checked x true) t _ (below _)
   proper-steps i (Instr.Join thread timeout) lawful = λ x e h. proper-arms image (slice_set me.checked x true) timeout _ refl
-  proper-steps i (Instr.Suspend thread) lawful = λ x e h. refl
-  proper-steps i (Instr.Continue thread) lawful = λ x e h. refl
+  proper-steps i (Instr.Suspend thread) lawful = λ x e h. (below _, refl)
+  proper-steps i (Instr.Continue thread) lawful = λ x e h. (below _, refl)
   proper-steps i (Instr.FutexWait addr value timeout) lawful = proper-arms image me.checked timeout _ refl
   proper-steps i (Instr.FutexWake addr all) lawful = refl
   proper-steps i _ lawful = λ x e h. ((x, e, h), refl)

@@ -1,9 +1,9 @@
 -- The steps that are left of each thread's call are proper in every state that a run of a described image reaches: each step of the
 -- access-matrix machine keeps that.
 use Rattle.um_machine.specs.Run.{leaves, stops}
-use Rattle.um_refinement.proofs.Words.{◌≡◌, ℕ, ◌+◌, Bool, true, false, List, [], ◌∷◌, length, Option, Some, None, refl, sym, ap, ◌∙◌, subst, arith, if◌then◌else◌, nat_lt, slice_index_or, slice_set, true≢false, get_or-set_same, Event, Image, Instr, ROWS, THREADS, Addr, Errno, Kind, Mode, Policy, Want, IsLawful, is_lawful_line, row_at, Pending, Refusal, Thread, Change, Next, changed, checked_way, gone, steps_by, told_way, verdict, Steps, fatal_steps, steps_of, Offers, Runs, begins, exits, goes, skips_drops, skips_inherit, State, instruction_at, is_living, no_rows, nobody, thread_at, with_thread, Ignores, all_other, each-after, next_of, HoldsOfWays, way-left, Call, at_set, call_is, core_of, IsKnown, below_rows, passed, row_is, IsSited, call_of, none_checked, image_move, known_step, step_move, tends, is_tending, IsTrue, false≢true}
+use Rattle.um_refinement.proofs.Words.{thread_of_addr, ◌<◌, ◌≡◌, ℕ, ◌+◌, Bool, true, false, List, [], ◌∷◌, length, Option, Some, None, refl, sym, ap, ◌∙◌, subst, arith, if◌then◌else◌, nat_lt, slice_index_or, slice_set, true≢false, get_or-set_same, Event, Image, Instr, ROWS, THREADS, Addr, Errno, Kind, Mode, Policy, Want, IsLawful, is_lawful_line, row_at, Pending, Refusal, Thread, Change, Next, changed, checked_way, gone, steps_by, told_way, verdict, Steps, fatal_steps, steps_of, Offers, Runs, begins, exits, goes, skips_drops, skips_inherit, State, instruction_at, is_living, no_rows, nobody, thread_at, with_thread, Ignores, all_other, each-after, next_of, HoldsOfWays, way-left, Call, at_set, call_is, core_of, IsKnown, below_rows, passed, row_is, IsSited, call_of, none_checked, image_move, known_step, step_move, tends, is_tending, IsTrue, false≢true}
 use Rattle.um_machine.specs.Table as T
-use Rattle.um_refinement.proofs.CallSteps.{Bare, Proper, line-lawful, proper-steps}
+use Rattle.um_refinement.proofs.CallSteps.{Bare, Proper, line-lawful, proper-steps, thread-below}
 use Rattle.um_refinement.proofs.StepsLeft.{fatal-left}
 
 -- the steps of a thread that has ended
@@ -91,30 +91,30 @@ module _ (image : Image) where
   dooms-next held true from none = (none, tt)
   dooms-next held false from none = (none, tt)
 
-  gone-proper : IsSited image → (left : Steps) (u : State) (t : ℕ) (next : Next) (me : Thread) → u.image ≡ image → Fits (call_of me) left next → IsProper image (call_of me)
+  gone-proper : IsSited image → ((a : ℕ) → thread_of_addr image a < THREADS) → (left : Steps) (u : State) (t : ℕ) (next : Next) (me : Thread) → u.image ≡ image → Fits (call_of me) left next → IsProper image (call_of me)
       → IsProper image (call_of (gone left u t next me))
-  gone-proper sited left u t (Next.on change way) me same h was =
+  gone-proper sited below left u t (Next.on change way) me same h was =
       subst (IsProper image) (sym (call-changed u.image change me (steps_by left way))) (going (call_of me) me.checked (steps_by left way) (h.0, way-left (Proper image me.checked) (ways me.checked) left way h.1))
-  gone-proper sited left u t (Next.checks x None way) me same h was = going (call_of me) (slice_set me.checked x true) (steps_by left way) h
-  gone-proper sited left u t (Next.checks x (Some e) way) me same h was = going (call_of me) me.checked (steps_by left way) h
-  gone-proper sited left u t (Next.answers to reply) me same h was = going (call_of me) no_rows left (h.0, subst (Proper image no_rows) (sym h.1) none-held)
-  gone-proper sited left u t (Next.owns keeps) me same h was = (h.0, h.1)
-  gone-proper sited left u t (Next.begins None) me same h was = was
-  gone-proper sited left u t (Next.begins (Some instr)) me same h was =
+  gone-proper sited below left u t (Next.checks x None way) me same h was = going (call_of me) (slice_set me.checked x true) (steps_by left way) h
+  gone-proper sited below left u t (Next.checks x (Some e) way) me same h was = going (call_of me) me.checked (steps_by left way) h
+  gone-proper sited below left u t (Next.answers to reply) me same h was = going (call_of me) no_rows left (h.0, subst (Proper image no_rows) (sym h.1) none-held)
+  gone-proper sited below left u t (Next.owns keeps) me same h was = (h.0, h.1)
+  gone-proper sited below left u t (Next.begins None) me same h was = was
+  gone-proper sited below left u t (Next.begins (Some instr)) me same h was =
       going (call_of me) me.checked (steps_of u.image t me instr)
-      (h.0, subst (λ (i : Image). Proper image me.checked (steps_of i t me instr)) (sym same) (proper-steps image sited t me h.1 h.2.0 instr h.2.1))
-  gone-proper sited left u t (Next.resumes None) me same h was = was
-  gone-proper sited left u t (Next.resumes (Some told)) me same h was =
+      (h.0, subst (λ (i : Image). Proper image me.checked (steps_of i t me instr)) (sym same) (proper-steps image sited below t me h.1 h.2.0 instr h.2.1))
+  gone-proper sited below left u t (Next.resumes None) me same h was = was
+  gone-proper sited below left u t (Next.resumes (Some told)) me same h was =
       going (call_of me) me.checked (steps_by left (told_way told.reply)) (h.0, way-left (Proper image me.checked) (ways me.checked) left (told_way told.reply) h.1)
-  gone-proper sited left u t (Next.creates who) me same h was = going (call_of me) me.checked left h
-  gone-proper sited left u t Next.starts me same h was = going (call_of me) me.checked left (h.0, h.1 me.checked)
-  gone-proper sited left u t (Next.inherits who) me same h was = going (call_of me) me.checked (Pending.Inherit who ∷ left) h
-  gone-proper sited left u t (Next.drops from) me same h was = h
-  gone-proper sited left u t (Next.dooms from) me same h was = let next = dooms-next me.checked (nat_lt (from + 1) THREADS) from h in (next.0, λ dead. (h, next.1))
-  gone-proper sited left u t (Next.enters script) me same h was = going (call_of me) me.checked [] (h.0, h.1)
-  gone-proper sited left u t Next.exits me same h was = (none-held, λ dead. (none-held, tt))
-  gone-proper sited left u t (Next.fatal reason) me same h was = let closes = fatal-closes u.image t me reason u.image.policy in (closes.0, λ dead. closes.1)
-  gone-proper sited left u t Next.stays me same h was = was
+  gone-proper sited below left u t (Next.creates who) me same h was = going (call_of me) me.checked left h
+  gone-proper sited below left u t Next.starts me same h was = going (call_of me) me.checked left (h.0, h.1 me.checked)
+  gone-proper sited below left u t (Next.inherits who) me same h was = going (call_of me) me.checked (Pending.Inherit who ∷ left) h
+  gone-proper sited below left u t (Next.drops from) me same h was = h
+  gone-proper sited below left u t (Next.dooms from) me same h was = let next = dooms-next me.checked (nat_lt (from + 1) THREADS) from h in (next.0, λ dead. (h, next.1))
+  gone-proper sited below left u t (Next.enters script) me same h was = going (call_of me) me.checked [] (h.0, h.1)
+  gone-proper sited below left u t Next.exits me same h was = (none-held, λ dead. (none-held, tt))
+  gone-proper sited below left u t (Next.fatal reason) me same h was = let closes = fatal-closes u.image t me reason u.image.policy in (closes.0, λ dead. closes.1)
+  gone-proper sited below left u t Next.stays me same h was = was
 
 ignores : Ignores call_of all_other
 ignores = record { due = λ h me due. refl; told = λ h me told. refl; domain = λ h me domain. refl; doomed = λ h me. refl; flagged = λ h me aborted suspended. refl }
@@ -209,6 +209,9 @@ module _ (m : State) (t x : ℕ) where
     fits (Pending.Publish a) rest h = (alive h.1, h.0.1)
     fits (Pending.SetInit a strict undo) rest h = (alive h.1, h.0.1)
     fits (Pending.Named who) rest h = (alive h.1, h.0.1)
+    fits (Pending.Abort who) rest h = (alive h.1, h.0.1)
+    fits (Pending.Suspend who) rest h = (alive h.1, h.0.1)
+    fits (Pending.Continue who) rest h = (alive h.1, h.0.1)
     fits (Pending.DomInit d parts) rest h = (alive h.1, h.0.1)
     fits (Pending.DomAdd d range attr) rest h = (alive h.1, h.0.1)
     fits (Pending.DomRemove d range attr) rest h = (alive h.1, h.0.1)
@@ -231,7 +234,7 @@ module _ (m : State) (t x : ℕ) where
     proper-after q rest h =
         each-after call_of (IsProper m.image) ignores m t x q rest (λ who script stack priority mode. (none-held, λ dead. absurd (true≢false dead)))
         (λ th was. (tt, λ dead. ((was.1 dead).0, tt))) all
-        (λ u th image same was. gone-proper m.image known.reached.sited rest u t (next_of m t x q) th image (subst (λ (c : Call). Fits m.image c rest (next_of m t x q)) (sym same) (fits q rest h)) was)
+        (λ u th image same was. gone-proper m.image known.reached.sited (thread-below m.image lawful) rest u t (next_of m t x q) th image (subst (λ (c : Call). Fits m.image c rest (next_of m t x q)) (sym same) (fits q rest h)) was)
 
 -- Along a run.
 
