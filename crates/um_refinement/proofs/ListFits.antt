@@ -4,6 +4,7 @@ use Rattle.um_words.specs.Threads.{is_awake}
 use Rattle.um_fine.specs.Answers.{is_void}
 use Rattle.um_fine.specs.Follows.{rereads, shown_step, told_all, told_marked, waits_behind, with_actor}
 use Rattle.um_fine.specs.Places.{armed_for, clearing, noted_cell, noting, put_away, settling}
+use Rattle.um_refinement.specs.Offers.{ClearsOwn}
 use Rattle.um_refinement.proofs.StepsLeft.{rests-on, steps-on}
 use Rattle.um_refinement.specs.Offers.{Bare, begins, dropped, exits, goes, passed}
 use Rattle.um_refinement.proofs.ListGrowth.{behind-kept, claim-context, cleaning-kept, either-look, claim-kept, either, is_errand, looks-kept, unless}
@@ -22,6 +23,11 @@ but-other own x = by (x == own) refl
     by false e h = eqb-false x own e h
 
 module _ (image : Image) where
+  bare-clears : (c : Context) (todo : Todos) → Bare image todo → ClearsOwn image c todo
+  bare-clears c [] h = tt
+  bare-clears c (Todo.show q rest ∷ todo) h = absurd h
+  bare-clears c (q ∷ todo) h = tt
+
   bare-fits : (c : Context) (todo : Todos) → Bare image todo → Fits image c todo
   bare-fits c [] h = tt
   bare-fits c (Todo.show q rest ∷ todo) h = absurd h
@@ -31,6 +37,7 @@ module _ (image : Image) where
   bare-fits c (Todo.park ∷ todo) h = absurd h
   bare-fits c (Todo.sleep ∷ todo) h = absurd h
   bare-fits c (Todo.note site ∷ todo) h = λ number. bare-fits (record c { noted = Some number }) todo h
+  bare-fits c (Todo.leave ∷ todo) h = (bare-clears c todo h, bare-fits c todo h)
   bare-fits c (q ∷ todo) h = bare-fits c todo h
 
   settling-bare : (c : Context) (until : Option ℕ) (q : Pending) → Bare image (settling image c until q)
@@ -58,9 +65,9 @@ module _ (image : Image) where
   noting-fits c None todo noted h = h
   noting-fits c (Some site) todo noted h = elim (is_some c.noted) as (λ b. Fits image c (if b then todo else Todo.note site ∷ todo)) [ true ↦ h | false ↦ noted ]
 
-  clear-fits : (c : Context) (own : Bool) (a : Addr) (rest : Steps) → IsOffered image c (Pending.ClearInit a) rest → Fits image c (clearing image own (Pending.ClearInit a) rest)
-  clear-fits c true a rest h = (h, refl)
-  clear-fits c false a rest h = (h, refl)
+  clear-fits : (c : Context) (own : Bool) (a : Addr) (rest : Steps) → (row_named image a == own_row image c.thread) ≡ own → IsOffered image c (Pending.ClearInit a) rest → Fits image c (clearing image own (Pending.ClearInit a) rest)
+  clear-fits c true a rest own h = (own, (h, refl))
+  clear-fits c false a rest own h = (h, refl)
 
   fine-fits : (c : Context) (q : Pending) (rest : Steps) → IsOffered image c q rest → Fits image c (fine_steps image c q rest)
   fine-fits c (Pending.Work a ask) rest h =
@@ -70,7 +77,7 @@ module _ (image : Image) where
   fine-fits c (Pending.FutexWait a value timeout) rest h =
       let q = Pending.FutexWait a value timeout in noting-fits c (noted_cell image (q ∷ [])) (on_memory q rest ++ settling image c (armed_for image c q) q) (λ number. (offered-noted c number h, refl)) (h, refl)
   fine-fits c (Pending.Arm ticks) rest h = noting-fits c (noted_cell image rest) (Todo.owe ∷ Todo.show (Pending.Arm ticks) rest ∷ []) (λ number. (offered-noted c number h, refl)) (h, refl)
-  fine-fits c (Pending.ClearInit a) rest h = clear-fits c (row_named image a == own_row image c.thread) a rest h
+  fine-fits c (Pending.ClearInit a) rest h = clear-fits c (row_named image a == own_row image c.thread) a rest refl h
   fine-fits c (Pending.Probe a amount) rest h = either-look image (Fits image c) amount _ (λ x k. k) (h, refl)
   fine-fits c (Pending.CopyIn a amount) rest h = either-look image (Fits image c) amount _ (λ x k. k) (h, refl)
   fine-fits c q rest h = (h, refl)
@@ -260,7 +267,7 @@ module _ (image : Image) where
   goes-fits p e (Todo.reread_asleep ∷ todo) at r h =
       record { fits = either image (Fits image p.context) (is_awake (thread_in e.word)) (Todo.rouse p.context.thread) todo (λ b k. k) h }
   goes-fits p e (Todo.unshut who ∷ todo) at r h = record { fits = h }
-  goes-fits p e (Todo.leave ∷ todo) at r h = record { fits = wakes-fit p.context (told_all (woken_in (act_in e.act))) todo h }
+  goes-fits p e (Todo.leave ∷ todo) at r h = record { fits = wakes-fit p.context (told_all (woken_in (act_in e.act))) todo h.1 }
   goes-fits p e (Todo.handle deadline mark ∷ todo) at r h = by (is_void e.act)
     where
       by : (b : Bool) → ListIs image (record p { todo = if b then todo else wakes (told_marked mark (woken_in (act_in e.act))) todo })

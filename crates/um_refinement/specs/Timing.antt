@@ -1,5 +1,5 @@
 -- Virtual time: the clock, marks that are owed, and that who waits with a deadline has a mark.
-use Rattle.std.specs.Prelude.{◌≡◌, ℕ, ◌+◌, ◌<◌, ◌≤◌, Bool, true, false, ◌==◌, ◌&&◌, ◌||◌, not, nat_le, if◌then◌else◌, List, [], ◌∷◌, Option, Some, None, IsTrue}
+use Rattle.std.specs.Prelude.{◌≡◌, ℕ, ◌+◌, ◌<◌, ◌≤◌, Bool, true, false, ◌==◌, ◌&&◌, ◌||◌, not, nat_le, nat_lt, if◌then◌else◌, List, [], ◌∷◌, Option, Some, None, IsTrue}
 use Rattle.std.specs.List.{list_any, list_all}
 use Rattle.um_base.specs.declared.image.Image.{Image}
 use Rattle.um_base.specs.declared.limits.TheConstants.{ROWS}
@@ -53,10 +53,10 @@ settles deadline mark _ = false
 abbrev pub is_sound : ℕ → Marked → Bool
 is_sound now x = not x.given || (x.settled && nat_le x.deadline now)
 
--- a thread's mark is for a cell in which threads wait
+-- a thread's mark is for a cell in which threads wait, and a timer's for a row
 abbrev pub is_placed : Mark → Bool
 is_placed (Mark.Thread who site) = is_waiting_site site
-is_placed (Mark.Timer x) = true
+is_placed (Mark.Timer x) = nat_lt x.0 ROWS
 
 -- Each mark that isn't settled is one that a processor is to settle. One that was given is settled, and its deadline has come; so it has of
 -- one in a hand.
