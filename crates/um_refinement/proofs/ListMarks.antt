@@ -1,9 +1,9 @@
 -- How many marks a processor has still to settle, has in its hand, and has still to pay, after a step of it: those behind that step, unless it arms a deadline
 -- or takes a mark.
-use Rattle.um_refinement.proofs.Words.{◌≡◌, ℕ, ◌+◌, Bool, true, false, ◌∷◌, ◌++◌, Option, Some, None, refl, sym, behind_step, ap, ◌∙◌, subst, arith, [], if◌then◌else◌, ◌==◌, nat_lt, is_some, false≢true, true≢false, Image, ROWS, own_row, row_named, thread_of_row, Addr, Amount, Pending, Steps, Instr, begins_cleaning, Context, thread_in, goes_on_by, p_next, row_number, with_cleaned, Todo, Todos, but, cleaning_of, emptying, end_of_turn, fine_steps, is_cleaning_todo, next_steps, on_memory, sized, turn_of, with_cleaning, cleaning, Processor, Exchange, FineStep, Behind, after_take, dropped_at, instruction_at, is_empty, is_visit, refilled_by, resumed, counted, names_row}
+use Rattle.um_refinement.proofs.Words.{◌⊎◌, inl, inr, ◌≡◌, ℕ, ◌+◌, Bool, true, false, ◌∷◌, ◌++◌, Option, Some, None, refl, sym, behind_step, ap, ◌∙◌, subst, arith, [], if◌then◌else◌, ◌==◌, nat_lt, is_some, false≢true, true≢false, Image, ROWS, own_row, row_named, thread_of_row, Addr, Amount, Pending, Steps, Instr, begins_cleaning, Context, thread_in, goes_on_by, p_next, row_number, with_cleaned, Todo, Todos, but, cleaning_of, emptying, end_of_turn, fine_steps, is_cleaning_todo, next_steps, on_memory, sized, turn_of, with_cleaning, cleaning, Processor, Exchange, FineStep, Behind, after_take, dropped_at, instruction_at, is_empty, is_visit, refilled_by, resumed, counted, names_row}
 use Rattle.um_words.specs.declared.fine.Mark.{Mark}
 use Rattle.um_fine.specs.Follows.{shown_step}
-use Rattle.um_fine.specs.Places.{armed_for, clearing, handling, is_paid, noted_cell, noting, put_away, settling, turn}
+use Rattle.um_fine.specs.Places.{armed_for, clearing, handling, is_paid, mark_for, noted_cell, noting, put_away, settling, turn}
 use Rattle.um_refinement.specs.Frames.{IsActOver, access_alone, access_settled, act_alone, act_settled}
 use Rattle.um_refinement.specs.Timing.{armed_next, armed_step, handles, settles}
 use Rattle.um_refinement.proofs.ListGrowth.{EndsWell, ReadsLast, acted-kept, behind-kept, cleaning-kept, either, either-look, ends-behind, is_errand, looks-kept, claim-kept, drop-kept, goes-kept, pass-kept, show-kept, visits_row}
@@ -62,11 +62,20 @@ module _ (image : Image) (test : Todo → Bool) (of : IsOfMarking test) where
       ∙ (skips (Todo.show q rest) (Todo.read_done None ∷ Todo.let_go ∷ todo) refl
       ∙ (skips (Todo.read_done None) (Todo.let_go ∷ todo) refl ∙ (skips Todo.let_go todo refl ∙ h)))))
 
-  acted : (c : Context) (until : Option ℕ) (q : Pending) (rest : Steps) → until ≡ None → Count (Todo.show q rest ∷ settling image c until q) ≡ 0
-  acted c until q rest none = ap (λ (o : Option ℕ). Count (Todo.show q rest ∷ settling image c o q)) none ∙ shown q rest
+  -- no mark that is to be settled counts
+  abbrev pub IsFree : Type 0
+  IsFree = (deadline : ℕ) (mark : Mark) → test (Todo.settle deadline mark) ≡ false
 
-  acted-there : (c : Context) (until : Option ℕ) (q : Pending) (rest : Steps) → until ≡ None → Count (on_memory q rest ++ settling image c until q) ≡ 0
-  acted-there c until q rest none = ap (λ (o : Option ℕ). Count (on_memory q rest ++ settling image c o q)) none ∙ access q rest [] refl
+  settled : (c : Context) (until : Option ℕ) (q : Pending) → (until ≡ None) ⊎ IsFree → Count (settling image c until q) ≡ 0
+  settled c until q (inl none) = ap (λ (o : Option ℕ). Count (settling image c o q)) none
+  settled c None q (inr free) = refl
+  settled c (Some deadline) q (inr free) = ap (λ b. if b then 0 + 1 else 0) (free deadline (mark_for image c.thread (q ∷ [])))
+
+  acted : (c : Context) (until : Option ℕ) (q : Pending) (rest : Steps) → (until ≡ None) ⊎ IsFree → Count (Todo.show q rest ∷ settling image c until q) ≡ 0
+  acted c until q rest none = skips (Todo.show q rest) (settling image c until q) refl ∙ settled c until q none
+
+  acted-there : (c : Context) (until : Option ℕ) (q : Pending) (rest : Steps) → (until ≡ None) ⊎ IsFree → Count (on_memory q rest ++ settling image c until q) ≡ 0
+  acted-there c until q rest none = access q rest (settling image c until q) (settled c until q none)
 
   edited : (d : ℕ) (q : Pending) (rest : Steps) → Count (Todo.write_claim d ∷ Todo.edit d q ∷ Todo.show q rest ∷ []) ≡ 0
   edited d q rest =
@@ -79,8 +88,8 @@ module _ (image : Image) (test : Todo → Bool) (of : IsOfMarking test) where
   looked amount q rest =
       either-look image (λ todo. Count todo ≡ 0) amount (on_memory q rest) (λ x h. skips (Todo.size_look x) (on_memory q rest) refl ∙ h) (access q rest [] refl)
 
-  -- where no deadline is armed for it, a pending step has no mark to settle
-  fine-none : (c : Context) (q : Pending) (rest : Steps) → armed_step image c q ≡ None → Count (fine_steps image c q rest) ≡ 0
+  -- where no deadline is armed for it, a pending step has no mark to settle that counts
+  fine-none : (c : Context) (q : Pending) (rest : Steps) → (armed_step image c q ≡ None) ⊎ IsFree → Count (fine_steps image c q rest) ≡ 0
   fine-none c (Pending.Load to a n) rest h = access (Pending.Load to a n) rest [] refl
   fine-none c (Pending.Store a n value) rest h = access (Pending.Store a n value) rest [] refl
   fine-none c (Pending.Fetch a) rest h = access (Pending.Fetch a) rest [] refl
@@ -119,7 +128,7 @@ module _ (image : Image) (test : Todo → Bool) (of : IsOfMarking test) where
   visited : (b : Bool) (q : Todo) (todo : Todos) → is_marking q ≡ false → Count todo ≡ 0 → Count (if b then q ∷ todo else todo) ≡ 0
   visited b q todo off h = either image (λ z. Count z ≡ 0) b q todo (λ e k. skips q todo off ∙ k) h
 
-  pub next-none : (c : Context) (steps : Steps) → armed_next image c steps ≡ None → Count (next_steps image c steps) ≡ 0
+  pub next-none : (c : Context) (steps : Steps) → (armed_next image c steps ≡ None) ⊎ IsFree → Count (next_steps image c steps) ≡ 0
   next-none c [] h = end-none c.ended
   next-none c (Pending.Resume ∷ rest) h = end-none false
   next-none c (Pending.Inherit who ∷ q ∷ rest) h =
@@ -129,9 +138,9 @@ module _ (image : Image) (test : Todo → Bool) (of : IsOfMarking test) where
   next-none c (Pending.Drops from ∷ []) h = shown (Pending.Drops from) []
   next-none c (q ∷ rest) h = fine-none c q rest (same q rest h)
     where
-      same : (q : Pending) (rest : Steps) → armed_next image c (q ∷ rest) ≡ None → armed_step image c q ≡ None
-      same (Pending.Inherit who) rest h = refl
-      same (Pending.Drops from) rest h = refl
+      same : (q : Pending) (rest : Steps) → (armed_next image c (q ∷ rest) ≡ None) ⊎ IsFree → (armed_step image c q ≡ None) ⊎ IsFree
+      same (Pending.Inherit who) rest h = inl refl
+      same (Pending.Drops from) rest h = inl refl
       same q rest h = h
 
   -- What is behind a step: so many, and nothing only where that was nothing.
@@ -140,7 +149,7 @@ module _ (image : Image) (test : Todo → Bool) (of : IsOfMarking test) where
     Is z = (Count z ≡ Count todo) × (is_nil z ≡ true → todo ≡ [])
 
     abbrev IsCalm : Context → Type 0
-    IsCalm c = todo ≡ [] → armed_next image c c.pending ≡ None
+    IsCalm c = todo ≡ [] → (armed_next image c c.pending ≡ None) ⊎ IsFree
 
     in-front : (q : Todo) (z : Todos) → is_marking q ≡ false → Is z → Is (q ∷ z)
     in-front q z off h = (skips q z off ∙ h.0, λ e. absurd (false≢true e))
@@ -233,9 +242,14 @@ module _ (image : Image) (test : Todo → Bool) (of : IsOfMarking test) where
 
   -- Where a processor takes a thread for whose next step no deadline is armed, it has none; it has those of the mark that it takes.
   abbrev pub TakesCalm : Exchange → Type 0
-  TakesCalm (Exchange.thread c None) = armed_next image c c.pending ≡ None
-  TakesCalm (Exchange.thread c (Some told)) = armed_next image (resumed image c told) (resumed image c told).pending ≡ None
+  TakesCalm (Exchange.thread c None) = (armed_next image c c.pending ≡ None) ⊎ IsFree
+  TakesCalm (Exchange.thread c (Some told)) = (armed_next image (resumed image c told) (resumed image c told).pending ≡ None) ⊎ IsFree
   TakesCalm moved = Unit {0}
+
+  pub takes-free : IsFree → (moved : Exchange) → TakesCalm moved
+  takes-free free (Exchange.thread c None) = inr free
+  takes-free free (Exchange.thread c (Some told)) = inr free
+  takes-free free moved = tt
 
   abbrev pub in_hand : Exchange → ℕ
   in_hand (Exchange.mark deadline mark) = Count (handling deadline mark)
