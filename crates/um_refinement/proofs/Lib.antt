@@ -127,6 +127,7 @@ pub mod Waiting
 pub mod CompleteRuns
 pub mod MemoryPart
 pub mod WordsPart
+pub mod Taking
 pub mod PartsElsewhere
 pub mod ListAdders
 pub mod OfVisits

@@ -24,13 +24,30 @@ went-else left s t u (Next.begins None) other = refl
 went-else left s t u (Next.resumes None) other = refl
 went-else left s t u next other = set-else s.threads t u (gone left s t next (thread_at s t)) other
 
-module _ (m : State) (t u : ℕ) (other : t ≡ u → ⊥) where
+module _ (m : State) (t u : ℕ) where
   writes-leave : (x : ℕ) (q : Pending) → starts_other u q → doing (thread_at (wrote (effects_of m t x q) m) u) ≡ doing (thread_at m u)
   writes-leave x (Pending.Start who script stack priority mode) h =
       ap doing (set-else m.threads who.0 u (T.newborn m (thread_at m t) who.0 script (Pending.Start who script stack priority mode)) h)
   writes-leave x (Pending.Cut who) h = ap doing (set-else m.threads who.0 u (cut (thread_at m who.0)) h)
   writes-leave x q h = let ws = effects_of m t x q in key-same doing m (wrote ws m) (keys-wrote doing all_other ignores ws m refl) u
 
-  pub others : (x : ℕ) (p : Pending) (rest : Steps) → starts_other u p → doing (thread_at (T.after m t x p rest) u) ≡ doing (thread_at m u)
-  others x p rest h =
+  pub others : (t ≡ u → ⊥) → (x : ℕ) (p : Pending) (rest : Steps) → starts_other u p → doing (thread_at (T.after m t x p rest) u) ≡ doing (thread_at m u)
+  others other x p rest h =
       ap doing (went-else rest (wrote (effects_of m t x p) m) t u (next_of m t x p) other) ∙ writes-leave x p h
+
+  -- the steps by which no thread goes on
+  abbrev pub NoTurn : Pending → Type 0
+  NoTurn (Pending.TimeOut who) = Unit {0}
+  NoTurn Pending.Expire = Unit {0}
+  NoTurn Pending.Tick = Unit {0}
+  NoTurn Pending.Left = Unit {0}
+  NoTurn (Pending.Cut who) = Unit {0}
+  NoTurn q = ⊥
+
+  pub all-others : (x : ℕ) (q : Pending) (rest : Steps) → NoTurn q → starts_other u q → doing (thread_at (T.after m t x q rest) u) ≡ doing (thread_at m u)
+  all-others x (Pending.TimeOut who) rest is h = writes-leave x (Pending.TimeOut who) h
+  all-others x Pending.Expire rest is h = writes-leave x Pending.Expire h
+  all-others x Pending.Tick rest is h = writes-leave x Pending.Tick h
+  all-others x Pending.Left rest is h = writes-leave x Pending.Left h
+  all-others x (Pending.Cut who) rest is h = writes-leave x (Pending.Cut who) h
+  all-others x q rest is h = absurd is

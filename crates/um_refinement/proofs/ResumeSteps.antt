@@ -57,7 +57,7 @@ module _ (f : Fine) (m : State) (rel : Rel f m) where
     pub tells : (w : Told) × ((thread_at m c.thread).told ≡ Some w)
 
   -- who was told something wasn't cut
-  nobody-cut : (t : ℕ) → t < THREADS → (w : Told) × (told_by f t f.cpus ≡ Some w) → (cutters f t ≡ 0) × (is_cut (scheduler f) t ≡ false)
+  pub nobody-cut : (t : ℕ) → t < THREADS → (w : Told) × (told_by f t f.cpus ≡ Some w) → (cutters f t ≡ 0) × (is_cut (scheduler f) t ≡ false)
   nobody-cut t few w = by (cutters f t) refl
     where
       cut-none : (b : Bool) → one_if b ≡ 0 → b ≡ false
