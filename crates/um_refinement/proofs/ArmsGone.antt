@@ -5,6 +5,7 @@ use Rattle.um_fine.specs.Continues.{goes_on}
 use Rattle.um_fine.specs.Places.{armed_for, is_timer_start}
 use Rattle.um_fine.specs.Scheduler.{to_kill}
 use Rattle.um_fine.specs.Scheduler.{waits as is_waiting}
+use Rattle.um_refinement.specs.Lists.{is_arm}
 use Rattle.um_refinement.specs.Offers as O
 use Rattle.um_refinement.specs.Timing.{armed_next, armed_step, is_act}
 use Rattle.um_refinement.proofs.Offered.{NotKilled}
@@ -83,13 +84,7 @@ module _ (image : Image) where
   part-after c left Next.exits k h was = part-calm (gone_part image left Next.exits c) (inl (refl, tt))
   part-after c left (Next.fatal reason) k h was = part-calm (gone_part image left (Next.fatal reason) c) (inl (refl, ends-calm image c.thread (as_thread c) reason image.policy))
 
-  -- the steps that arm a deadline
-  abbrev pub is_arming : Pending → Bool
-  is_arming (Pending.Arm ticks) = true
-  is_arming (Pending.ArmTimer ticks) = true
-  is_arming q = false
-
-  step-keeps : (c : Context) (q : Pending) (act : Act) (came : List ℕ) → is_arming q ≡ false → keeps_next (T.continues image c.thread (as_thread c) 0 q act came) ≡ true
+  step-keeps : (c : Context) (q : Pending) (act : Act) (came : List ℕ) → is_arm q ≡ false → keeps_next (T.continues image c.thread (as_thread c) 0 q act came) ≡ true
   step-keeps c (Pending.Arm ticks) act came off = absurd (true≢false off)
   step-keeps c (Pending.ArmTimer ticks) act came off = absurd (true≢false off)
   step-keeps c (Pending.Load to a n) act came off = ap not (keeps-if _ Change.nothing (Change.register to _) refl refl)
@@ -103,7 +98,7 @@ module _ (image : Image) where
   step-keeps c q act came off = refl
 
   -- after the event of a step that arms none, where none is armed for one that is no act
-  pub event-unarmed : (c : Context) (q : Pending) (rest : Steps) (act : Act) (moved : Exchange) → is_arming q ≡ false → Stands c.until q rest → (is_act q ≡ false → NotKilled q → IsNone c)
+  pub event-unarmed : (c : Context) (q : Pending) (rest : Steps) (act : Act) (moved : Exchange) → is_arm q ≡ false → Stands c.until q rest → (is_act q ≡ false → NotKilled q → IsNone c)
       → IsNone (continues image c 0 q rest act moved)
   event-unarmed c (Pending.Work a ask) rest act moved off h none =
       let came = came_in (Pending.Work a ask) moved in
@@ -118,7 +113,7 @@ module _ (image : Image) where
       part-after c rest (T.continues image c.thread (as_thread c) 0 q act came) (step-keeps c q act came off) (fits c.until image c.thread (as_thread c) 0 act came q rest h) (none refl tt)
 
   -- after a step that arms one an act comes next
-  pub arming-acts : (c : Context) (q : Pending) (rest : Steps) (act : Act) (moved : Exchange) → is_arming q ≡ true → Stands c.until q rest → Acts (continues image c 0 q rest act moved).pending
+  pub arming-acts : (c : Context) (q : Pending) (rest : Steps) (act : Act) (moved : Exchange) → is_arm q ≡ true → Stands c.until q rest → Acts (continues image c 0 q rest act moved).pending
   arming-acts c (Pending.Arm ticks) rest act moved on h = acts (fits c.until image c.thread (as_thread c) 0 act (came_in (Pending.Arm ticks) moved) (Pending.Arm ticks) rest h)
     where
       acts : {until : Option ℕ} {left : Steps} {deadline : Option ℕ} {way : Way} → GoesOn until left (Change.until deadline) way → Acts (steps_by left way)

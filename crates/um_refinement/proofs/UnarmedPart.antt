@@ -1,5 +1,5 @@
 -- Where no act is on its processor's list no deadline is armed for a thread's next step, after every lawful step.
-use Rattle.um_refinement.proofs.Words.{Act, by_me, ◌≡◌, inl, inr, ℕ, ◌+◌, ◌<◌, Bool, true, false, cond, List, [], ◌∷◌, ◌++◌, length, Option, Some, None, refl, sym, ap, ◌∙◌, subst, ◌==◌, ◌||◌, IsTrue, list_any, if◌then◌else◌, is_some, and_parts, eqb-true, false≢true, true≢false, Image, Told, ThreadIx, own_row, thread_of_row, ROWS, Pending, Thread, Steps, State, thread_at, FineAct, Unseen, Event, More, act_in, is_visit, is_word_read, thread_in, begins_cleaning, says_show, shows, Context, no_context, after_show, after_take, answer_in, continues, filled_up, next_steps, dropped_at, goes_on_by, p_next, row_number, with_cleaned, refilled_by, behind_step, Todo, Todos, cleaning_of, is_cleaning_todo, turn, Processor, Exchange, FineStep, Fine, scheduler, first_ready, has_ready, parked_at, told_at, waits, is_empty, Behind, AreFramed, Fits, Drops, IsOffered, behind_shown, is_over, runs, IsOf, names_row, cpu_of, same_cpu, resumed, unwrap_or, nat_lt, as_thread, own_part}
+use Rattle.um_refinement.proofs.Words.{has_steps, Act, by_me, ◌≡◌, inl, inr, ℕ, ◌+◌, ◌<◌, Bool, true, false, cond, List, [], ◌∷◌, ◌++◌, length, Option, Some, None, refl, sym, ap, ◌∙◌, subst, ◌==◌, ◌||◌, IsTrue, list_any, if◌then◌else◌, is_some, and_parts, eqb-true, false≢true, true≢false, Image, Told, ThreadIx, own_row, thread_of_row, ROWS, Pending, Thread, Steps, State, thread_at, FineAct, Unseen, Event, More, act_in, is_visit, is_word_read, thread_in, begins_cleaning, says_show, shows, Context, no_context, after_show, after_take, answer_in, continues, filled_up, next_steps, dropped_at, goes_on_by, p_next, row_number, with_cleaned, refilled_by, behind_step, Todo, Todos, cleaning_of, is_cleaning_todo, turn, Processor, Exchange, FineStep, Fine, scheduler, first_ready, has_ready, parked_at, told_at, waits, is_empty, Behind, AreFramed, Fits, Drops, IsOffered, behind_shown, is_over, runs, IsOf, names_row, cpu_of, same_cpu, resumed, unwrap_or, nat_lt, as_thread, own_part}
 use Rattle.um_fine.specs.Follows.{rereads, shown_step}
 use Rattle.um_fine.specs.Answers.{is_killed}
 use Rattle.um_fine.specs.Asks as A
@@ -9,20 +9,34 @@ use Rattle.um_fine.specs.Scheduler.{is_cut, to_kill}
 use Rattle.um_fine.specs.Runs.{changed}
 use Rattle.um_base.specs.declared.act.Answer.{Answer}
 use Rattle.um_refinement.specs.Frames.{IsActOver}
+use Rattle.um_refinement.specs.Lists.{is_arm}
 use Rattle.um_refinement.specs.Threads.{as_cut}
 use Rattle.um_refinement.specs.Timing.{IsUnarmed, armed_next, is_act, shows_act}
 use Rattle.um_refinement.proofs.ArmSteps.{Acts, Timed}
-use Rattle.um_refinement.proofs.ArmsGone.{IsNone, arming-acts, event-unarmed, is_arming, offered-none, offered-stands, put-back-none, resumed-none}
+use Rattle.um_refinement.proofs.ArmsGone.{IsNone, arming-acts, event-unarmed, offered-none, offered-stands, put-back-none, resumed-none}
 use Rattle.um_refinement.proofs.ArmsKnown.{AreTimed, Stands, offered-timed}
 use Rattle.um_refinement.proofs.Erased.{around}
 use Rattle.um_refinement.proofs.Kept.{IdleStep, gives, idle-step, ticks as time_goes, turns}
 use Rattle.um_refinement.proofs.Leaves.{Beside, Lawful, Leaves, beside, cuts, expires, leaves as tells_left, ticks as time_passes, times_out, cleans, drops, event, nothing, passes, recycles, resumes}
 use Rattle.um_refinement.proofs.ListGrips.{next-context}
 use Rattle.um_refinement.proofs.ListGrowth.{EndsWell, ReadsLast, acted-kept, claim-kept, claim-context, cleaning-kept, drop-kept, either, ends-behind, goes-kept, is_errand, is_shown, pass-kept, visits_row}
-use Rattle.um_refinement.proofs.Offered.{Shows, at-made, behind-is, own-same, shown-offers, own-unless, runs-first}
+use Rattle.um_refinement.proofs.Offered.{NotKilled, Shows, at-made, behind-is, own-same, shown-offers, own-unless, runs-first}
 use Rattle.um_refinement.proofs.ResumeSteps.{TellsWaiters, first-taken, resume-step, takes-turn}
 use Rattle.um_refinement.proofs.SchedulerSteps.{made-says}
 use Rattle.um_refinement.proofs.StepsLeft.{offered-on}
+
+-- the first step on a list arms a deadline
+abbrev pub arms_first : Todo → Bool
+arms_first (Todo.show q rest) = is_arm q
+arms_first q = false
+
+abbrev first_arms : Todos → Bool
+first_arms [] = false
+first_arms (q ∷ todo) = arms_first q
+
+abbrev heads_show : Todos → Bool
+heads_show [] = false
+heads_show (q ∷ todo) = is_shown q
 
 -- an act that stands behind a step stays on the list
 module _ (image : Image) where
@@ -71,7 +85,7 @@ module _ (image : Image) where
   no-reread (Answer.Now reply) todo = refl
 
   -- so it is behind a step that arms a deadline for it
-  armed-shown : (p : Processor) (e : FineStep) (q : Pending) (rest : Steps) → is_arming image q ≡ true
+  armed-shown : (p : Processor) (e : FineStep) (q : Pending) (rest : Steps) → is_arm q ≡ true
       → Acts (continues image p.context 0 q rest (act_in e.act) e.moved).pending → HasAct (after_show image p e q rest []).todo
   armed-shown p e (Pending.Arm ticks) rest on acts =
       let c = continues image p.context 0 (Pending.Arm ticks) rest (act_in e.act) e.moved in
@@ -184,23 +198,9 @@ module _ (f : Fine) (m : State) (e : FineStep) (law : Lawful f m e) (tells : Tel
       let was : armed_next f.image p.context (Pending.Drops d.from ∷ d.step ∷ d.rest) ≡ None = ap (armed_next f.image p.context) (sym d.pending) ∙ none in
       subst (λ (steps : Steps). IsNone f.image (dropped_at f.image (record p.context { pending = steps }) x false)) (sym d.pending) was
 
-  quiet : (q : Todo) (todo : Todos) → p.todo ≡ q ∷ todo → is_shown q ≡ false → list_any shows_act now.todo ≡ false → IsNone f.image now.context
-  quiet q todo at off none = moved-to (q ∷ todo) at (by q at off)
+  kept-none : (q : Todo) (todo : Todos) → p.todo ≡ q ∷ todo → is_shown q ≡ false → list_any shows_act todo ≡ false → IsNone f.image now.context
+  kept-none q todo at off gone = moved-to (q ∷ todo) at (by q at off)
     where
-      gone : list_any shows_act todo ≡ false
-      gone = which (list_any shows_act todo) refl
-        where
-          which : (b : Bool) → list_any shows_act todo ≡ b → b ≡ false
-          which false h = refl
-          which true h =
-              absurd (true≢false
-              (sym (next-has f.image p e (subst (λ (z : Todos). HasAct f.image (goes_on_by f.image p e z).todo) (sym at) (acts-stay f.image p e q todo off (framed q todo at) (last q off) h)))
-              ∙ none))
-            where
-              last : (q : Todo) → is_shown q ≡ false → ReadsLast e q todo
-              last (Todo.show q rest) off = absurd (true≢false off)
-              last q off = tt
-
       unshown : (q : Todo) → is_shown q ≡ false → list_any shows_act (q ∷ todo) ≡ false
       unshown (Todo.show q rest) off = absurd (true≢false off)
       unshown q off = gone
@@ -216,6 +216,23 @@ module _ (f : Fine) (m : State) (e : FineStep) (law : Lawful f m e) (tells : Tel
       by Todo.sleep at off = refl
       by (Todo.read_claim d) at off = subst (IsNone f.image) (sym (claim-context f.image p e d todo)) before
       by q at off = before
+
+  quiet : (q : Todo) (todo : Todos) → p.todo ≡ q ∷ todo → is_shown q ≡ false → list_any shows_act now.todo ≡ false → IsNone f.image now.context
+  quiet q todo at off none = kept-none q todo at off gone
+    where
+      gone : list_any shows_act todo ≡ false
+      gone = which (list_any shows_act todo) refl
+        where
+          which : (b : Bool) → list_any shows_act todo ≡ b → b ≡ false
+          which false h = refl
+          which true h =
+              absurd (true≢false
+              (sym (next-has f.image p e (subst (λ (z : Todos). HasAct f.image (goes_on_by f.image p e z).todo) (sym at) (acts-stay f.image p e q todo off (framed q todo at) (last q off) h)))
+              ∙ none))
+            where
+              last : (q : Todo) → is_shown q ≡ false → ReadsLast e q todo
+              last (Todo.show q rest) off = absurd (true≢false off)
+              last q off = tt
 
   -- an event
   read-none : (q : Pending) (rest : Steps) (todo : Todos) → p.todo ≡ Todo.show q rest ∷ todo → is_act q ≡ false → IsNone f.image p.context
@@ -240,7 +257,7 @@ module _ (f : Fine) (m : State) (e : FineStep) (law : Lawful f m e) (tells : Tel
     stands-so : Stands p.context.until q rest
     stands-so = subst (λ (until : Option ℕ). Stands until q rest) (sym (ap (λ (th : Thread). th.until) (own-same h))) (offered-timed m p.context.thread 0 (timed p.context.thread) q rest (shown-offers h))
 
-    arms : is_arming f.image q ≡ true → HasAct f.image now.todo
+    arms : is_arm q ≡ true → HasAct f.image now.todo
     arms on =
         let acts = arming-acts f.image p.context q rest (act_in e.act) e.moved on stands-so in
         let alone : todo ≡ [] = behind-is h ∙ nothing-behind q on in
@@ -249,20 +266,35 @@ module _ (f : Fine) (m : State) (e : FineStep) (law : Lawful f m e) (tells : Tel
         (subst (λ (r : Processor). HasAct f.image r.todo) (sym goes-on)
         (subst (λ (z : Todos). HasAct f.image (after_show f.image p e q rest z).todo) (sym alone) (armed-shown f.image p e q rest on acts))))
       where
-        nothing-behind : (q : Pending) → is_arming f.image q ≡ true → behind_shown f.image p.context q ≡ []
+        nothing-behind : (q : Pending) → is_arm q ≡ true → behind_shown f.image p.context q ≡ []
         nothing-behind (Pending.Arm ticks) on = refl
         nothing-behind (Pending.ArmTimer ticks) on = refl
         nothing-behind q on = absurd (false≢true on)
 
-    pub event-none : list_any shows_act now.todo ≡ false → IsNone f.image now.context
-    event-none none = by (is_arming f.image q) refl
+    event-calm : is_arm q ≡ false → IsNone f.image now.context
+    event-calm off =
+        moved-to (Todo.show h.listed rest ∷ todo) h.at
+        (subst (λ (r : Processor). IsNone f.image r.context) (sym goes-on)
+        (event-unarmed f.image p.context q rest (act_in e.act) e.moved off stands-so (λ quiet other. read-none q rest todo (at-made h other) quiet)))
+
+    event-none : list_any shows_act now.todo ≡ false → IsNone f.image now.context
+    event-none none = by (is_arm q) refl
       where
-        by : (b : Bool) → is_arming f.image q ≡ b → IsNone f.image now.context
+        by : (b : Bool) → is_arm q ≡ b → IsNone f.image now.context
         by true on = absurd (true≢false (sym (arms on) ∙ none))
-        by false off =
-            moved-to (Todo.show h.listed rest ∷ todo) h.at
-            (subst (λ (r : Processor). IsNone f.image r.context) (sym goes-on)
-            (event-unarmed f.image p.context q rest (act_in e.act) e.moved off stands-so (λ quiet other. read-none q rest todo (at-made h other) quiet)))
+        by false off = event-calm off
+
+    -- where the list arms none first
+    event-first : (head : Todo) (behind : Todos) → p.todo ≡ head ∷ behind → arms_first head ≡ false → IsNone f.image now.context
+    event-first head behind at off = by (is_arm q) refl
+      where
+        listed : (q : Pending) → is_arm q ≡ true → NotKilled q
+        listed Pending.Killed on = absurd (false≢true on)
+        listed q on = tt
+
+        by : (b : Bool) → is_arm q ≡ b → IsNone f.image now.context
+        by true on = absurd (true≢false (sym on ∙ (ap first_arms (sym (at-made h (listed q on)) ∙ at) ∙ off)))
+        by false off = event-calm off
 
   abbrev is_unseen : FineAct → Bool
   is_unseen (FineAct.Shown v more) = false
@@ -286,23 +318,26 @@ module _ (f : Fine) (m : State) (e : FineStep) (law : Lawful f m e) (tells : Tel
   read-no-act (Pending.FutexWait a value timeout) act h = absurd (false≢true h)
   read-no-act q act h = refl
 
+  read-calm : (q : Pending) (rest : Steps) (todo : Todos) → p.todo ≡ Todo.show q rest ∷ todo → (u : Unseen) → e.act ≡ FineAct.Unseen u → IsNone f.image now.context
+  read-calm q rest todo at u said = which (is_word_read e.act) refl
+    where
+      says : e.act ≡ says_show f.image p q e.act
+      says = made-says f m e law (Todo.show q rest ∷ todo) at
+
+      which : (b : Bool) → is_word_read e.act ≡ b → IsNone f.image now.context
+      which true read =
+          moved-to (Todo.show q rest ∷ todo) at
+          (subst (λ b. IsNone f.image (if b then record p { todo = put_away (thread_in e.word).doomed } else after_show f.image p e (shown_step f.image q e.act) rest todo).context) (sym read)
+          (read-none q rest todo at (read-no-act q e.act (sym (ap is_word_read says) ∙ read))))
+      which false off = absurd (false≢true (sym (shown-says q e.act off) ∙ (sym (ap is_unseen says) ∙ ap is_unseen said)))
+
   -- a step that no trace shows
   unseen-none : (u : Unseen) → e.act ≡ FineAct.Unseen u → list_any shows_act now.todo ≡ false → IsNone f.image now.context
   unseen-none u said none = by p.todo refl
     where
       by : (todo : Todos) → p.todo ≡ todo → IsNone f.image now.context
       by [] at = moved-to [] at (takes at)
-      by (Todo.show q rest ∷ todo) at = which (is_word_read e.act) refl
-        where
-          says : e.act ≡ says_show f.image p q e.act
-          says = made-says f m e law (Todo.show q rest ∷ todo) at
-
-          which : (b : Bool) → is_word_read e.act ≡ b → IsNone f.image now.context
-          which true read =
-              moved-to (Todo.show q rest ∷ todo) at
-              (subst (λ b. IsNone f.image (if b then record p { todo = put_away (thread_in e.word).doomed } else after_show f.image p e (shown_step f.image q e.act) rest todo).context) (sym read)
-              (read-none q rest todo at (read-no-act q e.act (sym (ap is_word_read says) ∙ read))))
-          which false off = absurd (false≢true (sym (shown-says q e.act off) ∙ (sym (ap is_unseen says) ∙ ap is_unseen said)))
+      by (Todo.show q rest ∷ todo) at = read-calm q rest todo at u said
       by (q ∷ todo) at = quiet q todo at refl none
 
   unarmed-now : (s : State) → Leaves f m e s → list_any shows_act now.todo ≡ false → IsNone f.image now.context
@@ -321,6 +356,34 @@ module _ (f : Fine) (m : State) (e : FineStep) (law : Lawful f m e) (tells : Tel
       by (expires deadline x todo at few said) = quiet (Todo.handle deadline (Mark.Timer x)) todo at refl none
       by (time_passes at said) = moved-to [] at (takes at)
       by (tells_left todo at said) = quiet Todo.leave todo at refl none
+
+  -- Where nothing stands behind a step that arms none, none is armed then, whatever comes next.
+  pub calm-now : (s : State) → Leaves f m e s → (q : Todo) → p.todo ≡ q ∷ [] → arms_first q ≡ false → IsNone f.image now.context
+  calm-now s leaves q at off = by q at off s leaves
+    where
+      calmly : (q : Todo) → p.todo ≡ q ∷ [] → is_shown q ≡ false → IsNone f.image now.context
+      calmly q at off = kept-none q [] at off refl
+
+      by : (q : Todo) → p.todo ≡ q ∷ [] → arms_first q ≡ false → (s : State) → Leaves f m e s → IsNone f.image now.context
+      by (Todo.show q rest) at off _ (nothing u said) = read-calm q rest [] at u said
+      by (Todo.show q rest) at off _ (event r left todo x h shown is) = event-first r left todo h (Todo.show q rest) [] at off
+      by (Todo.show q rest) at off _ (resumes c told left idle moved said) = absurd (false≢true (ap has_steps (sym idle ∙ at)))
+      by (Todo.show q rest) at off _ (passes who x left todo v said) = absurd (false≢true (ap heads_show (sym v.at ∙ at)))
+      by (Todo.show q rest) at off _ (drops from x left todo v said) = absurd (false≢true (ap heads_show (sym v.at ∙ at)))
+      by (Todo.show q rest) at off _ (cleans who x left todo v said) = absurd (false≢true (ap heads_show (sym v.at ∙ at)))
+      by (Todo.show q rest) at off _ (recycles x left todo there few said chosen) = absurd (false≢true (ap heads_show (sym there ∙ at)))
+      by (Todo.show q rest) at off _ (beside t x r how chosen started) = absurd (false≢true (sym (beside-quiet how) ∙ ap heads_show at))
+        where
+          beside-quiet : {t x : ℕ} {q : Pending} → Beside f m e t x q → heads_show p.todo ≡ false
+          beside-quiet (cuts who site before x todo at same few said) = ap heads_show at
+          beside-quiet (times_out deadline site x who todo at same few said) = ap heads_show at
+          beside-quiet (expires deadline x todo at few said) = ap heads_show at
+          beside-quiet (time_passes at said) = ap heads_show at
+          beside-quiet (tells_left todo at said) = ap heads_show at
+      by q at off s leaves = calmly q at refl
+
+  pub takes-none : p.todo ≡ [] → IsNone f.image (after_take f.image p e.moved).context
+  takes-none at = takes at
 
   pub unarmed-part : (s : State) → Leaves f m e s → (k : ℕ) → k < f.cpus → IsUnarmed later k
   unarmed-part s leaves k l = by (e.cpu == k) refl

@@ -88,13 +88,18 @@ pub record TimeoutComes (f : Fine) (m : State) (t : ℕ) : Type 0 where
 pub record ExpiryComes (f : Fine) (m : State) (x : ℕ) : Type 0 where
   pub comes : (d : ℕ) → (object_at m x).contents ≡ Contents.Running d → IsToCome f d (Mark.Timer (to_row x))
 
+-- what is left of a mark that was handled: wakes, and that it is paid
+abbrev pub IsPaying : Todos → Type 0
+IsPaying [] = ⊥
+IsPaying (Todo.wake who told ∷ todo) = IsPaying todo
+IsPaying (Todo.paid ∷ todo) = todo ≡ []
+IsPaying (q ∷ todo) = ⊥
+
 -- the list of a processor with a mark in its hand: it handles the mark, wakes, and pays
 abbrev pub IsHand : Todos → Type 0
 IsHand [] = ⊥
 IsHand (Todo.handle deadline mark ∷ todo) = todo ≡ Todo.paid ∷ []
-IsHand (Todo.wake who told ∷ todo) = IsHand todo
-IsHand (Todo.paid ∷ todo) = todo ≡ []
-IsHand (q ∷ todo) = ⊥
+IsHand (q ∷ todo) = IsPaying (q ∷ todo)
 
 -- The thread by which a processor makes the events of time was started. The list of one with a mark in its hand is that of the mark.
 pub record TimerIs (f : Fine) (m : State) (k : ℕ) : Type 0 where
