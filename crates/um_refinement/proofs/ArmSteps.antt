@@ -29,6 +29,19 @@ Acts (Pending.Join who timeout ∷ rest) = Ends rest
 Acts (Pending.FutexWait a value timeout ∷ rest) = Ends rest
 Acts steps = ⊥
 
+-- the same, but no start of a timer
+abbrev pub Waiting : Steps → Type 0
+Waiting (Pending.Work a ask ∷ rest) = (is_timer_start ask ≡ false) × Ends rest
+Waiting (Pending.Join who timeout ∷ rest) = Ends rest
+Waiting (Pending.FutexWait a value timeout ∷ rest) = Ends rest
+Waiting steps = ⊥
+
+pub waiting-acts : (steps : Steps) → Waiting steps → Acts steps
+waiting-acts (Pending.Work a ask ∷ rest) h = h.1
+waiting-acts (Pending.Join who timeout ∷ rest) h = h
+waiting-acts (Pending.FutexWait a value timeout ∷ rest) h = h
+waiting-acts steps h = absurd h
+
 -- the start of a timer, behind which the call ends
 abbrev pub StartsTimer : Steps → Type 0
 StartsTimer (Pending.Work a (Ask.TimerStart deadline) ∷ rest) = Ends rest
@@ -37,7 +50,7 @@ StartsTimer steps = ⊥
 -- each deadline is armed right before its act, and each timer starts behind one
 abbrev pub Calm : Steps → Type 0
 Calm [] = Unit {0}
-Calm (Pending.Arm ticks ∷ rest) = Acts rest
+Calm (Pending.Arm ticks ∷ rest) = Waiting rest
 Calm (Pending.ArmTimer ticks ∷ rest) = StartsTimer rest
 Calm (Pending.Work a ask ∷ rest) = (is_timer_start ask ≡ false) × Calm rest
 Calm (q ∷ rest) = Calm rest
@@ -67,7 +80,7 @@ rests-unarmed until (inr h) = absurd h
 
 -- The steps of a line.
 
-calm-arms : (timeout : Timeout) (steps : Steps) → Acts steps → Calm steps → Calm (arms timeout steps)
+calm-arms : (timeout : Timeout) (steps : Steps) → Waiting steps → Calm steps → Calm (arms timeout steps)
 calm-arms Timeout.NoWait steps acts h = h
 calm-arms (Timeout.Ticks ticks) steps acts h = acts
 calm-arms Timeout.Forever steps acts h = h
@@ -115,13 +128,13 @@ calm-steps image t me (Instr.SemInit object count limit) = calm-init _ (Ask.SemI
 calm-steps image t me (Instr.MsgqInit object msg_size max_msgs) = calm-buffered _ Kind.Msgq _ _ _ refl
 calm-steps image t me (Instr.StackInit object entries) = calm-buffered _ Kind.Stack _ _ _ refl
 calm-steps image t me (Instr.PipeInit object size) = calm-buffered _ Kind.Pipe _ _ _ refl
-calm-steps image t me (Instr.SemTake object timeout) = calm-arms timeout _ refl (refl, tt)
-calm-steps image t me (Instr.MutexLock object timeout) = calm-arms timeout _ refl (refl, tt)
-calm-steps image t me (Instr.MsgqPut object addr timeout) = calm-arms timeout _ refl (refl, tt)
-calm-steps image t me (Instr.MsgqGet object addr timeout) = calm-arms timeout _ refl (refl, tt)
-calm-steps image t me (Instr.StackPop object addr timeout) = calm-arms timeout _ refl (refl, tt)
-calm-steps image t me (Instr.PipeWrite object addr length timeout) = calm-arms timeout _ refl (refl, tt)
-calm-steps image t me (Instr.PipeRead object addr length timeout) = calm-arms timeout _ refl (refl, tt)
+calm-steps image t me (Instr.SemTake object timeout) = calm-arms timeout _ (refl, refl) (refl, tt)
+calm-steps image t me (Instr.MutexLock object timeout) = calm-arms timeout _ (refl, refl) (refl, tt)
+calm-steps image t me (Instr.MsgqPut object addr timeout) = calm-arms timeout _ (refl, refl) (refl, tt)
+calm-steps image t me (Instr.MsgqGet object addr timeout) = calm-arms timeout _ (refl, refl) (refl, tt)
+calm-steps image t me (Instr.StackPop object addr timeout) = calm-arms timeout _ (refl, refl) (refl, tt)
+calm-steps image t me (Instr.PipeWrite object addr length timeout) = calm-arms timeout _ (refl, refl) (refl, tt)
+calm-steps image t me (Instr.PipeRead object addr length timeout) = calm-arms timeout _ (refl, refl) (refl, tt)
 calm-steps image t me (Instr.Abort thread) = calm-aborts t _
 calm-steps image t me (Instr.Join thread timeout) = calm-arms timeout _ refl tt
 calm-steps image t me (Instr.FutexWait addr value timeout) = calm-arms timeout _ refl tt

@@ -8,7 +8,7 @@ use Rattle.um_machine.specs.Order.{to_deadline}
 use Rattle.um_machine.specs.Run.{stops, leaves}
 use Rattle.um_machine.specs.Table as T
 use Rattle.um_machine.specs.Writes.{cut}
-use Rattle.um_refinement.proofs.ArmSteps.{Acts, Calm, Ends, StartsTimer, Timed, Unarmed, calm-steps, rests-unarmed, unarmed-ways}
+use Rattle.um_refinement.proofs.ArmSteps.{Acts, Calm, Ends, StartsTimer, Timed, Unarmed, Waiting, calm-steps, waiting-acts, rests-unarmed, unarmed-ways}
 use Rattle.um_refinement.proofs.StepsLeft.{fatal-left}
 
 -- what is read of a thread
@@ -150,19 +150,19 @@ module _ (until : Option ℕ) where
   answered rest reply to (inl (inr h)) = subst Calm (sym h) tt
   answered rest reply to (inr h) = absurd h
 
-  armed : (ticks : ℕ) (rest : Steps) → Timed until (Pending.Arm ticks ∷ rest) → Acts rest
+  pub armed : (ticks : ℕ) (rest : Steps) → Timed until (Pending.Arm ticks ∷ rest) → Waiting rest
   armed ticks rest (inl (inl h)) = h.1
   armed ticks rest (inl (inr h)) = absurd h
   armed ticks rest (inr h) = absurd h
 
-  timer-armed : (ticks deadline : ℕ) (rest : Steps) → Timed until (Pending.ArmTimer ticks ∷ rest) → Acts (to_deadline deadline rest)
-  timer-armed ticks deadline rest (inl (inl h)) = by rest h.1
-    where
-      by : (rest : Steps) → StartsTimer rest → Acts (to_deadline deadline rest)
-      by (Pending.Work a (Ask.TimerStart before) ∷ rest) h = h
-      by rest h = absurd h
-  timer-armed ticks deadline rest (inl (inr h)) = absurd h
-  timer-armed ticks deadline rest (inr h) = absurd h
+  pub timer-armed : (ticks : ℕ) (rest : Steps) → Timed until (Pending.ArmTimer ticks ∷ rest) → StartsTimer rest
+  timer-armed ticks rest (inl (inl h)) = h.1
+  timer-armed ticks rest (inl (inr h)) = absurd h
+  timer-armed ticks rest (inr h) = absurd h
+
+  timer-acts : (deadline : ℕ) (rest : Steps) → StartsTimer rest → Acts (to_deadline deadline rest)
+  timer-acts deadline (Pending.Work a (Ask.TimerStart before) ∷ rest) h = h
+  timer-acts deadline rest h = absurd h
 
   -- behind an act none is armed for the next step
   acted : (rest : Steps) (ask : Ask) (a : Addr) → Timed until (Pending.Work a ask ∷ rest) → Unarmed until rest
@@ -197,8 +197,8 @@ module _ (until : Option ℕ) where
     fits (Pending.Answer reply to) rest h = answered rest reply to h
     fits (Pending.Dooms from) rest h = none-by (Pending.Dooms from) rest (λ z. z) (λ z. z) h
     fits (Pending.EnterUser script) rest h = none-by (Pending.EnterUser script) rest (λ z. z) (λ z. z) h
-    fits (Pending.Arm ticks) rest h = arms (armed ticks rest h)
-    fits (Pending.ArmTimer ticks) rest h = arms (timer-armed ticks _ rest h)
+    fits (Pending.Arm ticks) rest h = arms (waiting-acts rest (armed ticks rest h))
+    fits (Pending.ArmTimer ticks) rest h = arms (timer-acts _ rest (timer-armed ticks rest h))
     fits (Pending.Work a ask) rest h = keeps (keeps-work _ _) (acted rest ask a h)
     fits (Pending.Join who timeout) rest h = keeps (keeps-work _ _) (joined rest who timeout h)
     fits (Pending.FutexWait a value timeout) rest h = keeps (keeps-work _ _) (watched rest a value timeout h)

@@ -1,11 +1,12 @@
 -- How many marks a processor has still to settle, has in its hand, and has still to pay, after a step of it: those behind that step, unless it arms a deadline
 -- or takes a mark.
-use Rattle.um_refinement.proofs.Words.{◌⊎◌, inl, inr, ◌≡◌, ℕ, ◌+◌, Bool, true, false, ◌∷◌, ◌++◌, Option, Some, None, refl, sym, behind_step, ap, ◌∙◌, subst, arith, [], if◌then◌else◌, ◌==◌, nat_lt, is_some, false≢true, true≢false, Image, ROWS, own_row, row_named, thread_of_row, Addr, Amount, Pending, Steps, Instr, begins_cleaning, Context, thread_in, goes_on_by, p_next, row_number, with_cleaned, Todo, Todos, but, cleaning_of, emptying, end_of_turn, fine_steps, is_cleaning_todo, next_steps, on_memory, sized, turn_of, with_cleaning, cleaning, Processor, Exchange, FineStep, Behind, after_take, dropped_at, instruction_at, is_empty, is_visit, refilled_by, resumed, counted, names_row}
+use Rattle.um_refinement.proofs.Words.{◌⊎◌, inl, inr, ◌≡◌, ℕ, ◌+◌, Bool, true, false, ◌∷◌, ◌++◌, Option, Some, None, refl, sym, behind_step, ap, ◌∙◌, subst, arith, [], if◌then◌else◌, ◌==◌, nat_lt, is_some, false≢true, true≢false, Image, ROWS, own_row, row_named, thread_of_row, Addr, Amount, Pending, Steps, Instr, begins_cleaning, Context, thread_in, goes_on_by, p_next, row_number, with_cleaned, Todo, Todos, but, cleaning_of, emptying, end_of_turn, fine_steps, is_cleaning_todo, next_steps, on_memory, sized, turn_of, with_cleaning, cleaning, Processor, Exchange, FineStep, Behind, after_take, dropped_at, instruction_at, is_empty, is_visit, refilled_by, resumed, counted, names_row, one_if}
 use Rattle.um_words.specs.declared.fine.Mark.{Mark}
 use Rattle.um_fine.specs.Follows.{shown_step}
 use Rattle.um_fine.specs.Places.{armed_for, clearing, handling, is_paid, mark_for, noted_cell, noting, put_away, settling, turn}
 use Rattle.um_refinement.specs.Frames.{IsActOver, access_alone, access_settled, act_alone, act_settled}
 use Rattle.um_refinement.specs.Timing.{armed_next, armed_step, handles, settles}
+use Rattle.um_refinement.proofs.ArmSteps.{Acts}
 use Rattle.um_refinement.proofs.ListGrowth.{EndsWell, ReadsLast, acted-kept, behind-kept, cleaning-kept, either, either-look, ends-behind, is_errand, looks-kept, claim-kept, drop-kept, goes-kept, pass-kept, show-kept, visits_row}
 
 -- the steps that have to do with a mark
@@ -142,6 +143,42 @@ module _ (image : Image) (test : Todo → Bool) (of : IsOfMarking test) where
       same (Pending.Inherit who) rest h = inl refl
       same (Pending.Drops from) rest h = inl refl
       same q rest h = h
+
+  -- Where a deadline is armed for an act that comes next, its mark is to be settled.
+  noted-same : (c : Context) (site : Option ℕ) (todo : Todos) → Count (noting image c site todo) ≡ Count todo
+  noted-same c None todo = refl
+  noted-same c (Some site) todo =
+      elim (is_some c.noted) as (λ b. Count (if b then todo else Todo.note site ∷ todo) ≡ Count todo) [ true ↦ refl | false ↦ skips (Todo.note site) todo refl ]
+
+  access-same : (q : Pending) (rest : Steps) (todo : Todos) → Count (on_memory q rest ++ todo) ≡ Count todo
+  access-same q rest todo =
+      skips Todo.hold (Todo.read_claim None ∷ Todo.region_load ∷ Todo.show q rest ∷ Todo.read_done None ∷ Todo.let_go ∷ todo) refl
+      ∙ (skips (Todo.read_claim None) (Todo.region_load ∷ Todo.show q rest ∷ Todo.read_done None ∷ Todo.let_go ∷ todo) refl
+      ∙ (skips Todo.region_load (Todo.show q rest ∷ Todo.read_done None ∷ Todo.let_go ∷ todo) refl
+      ∙ (skips (Todo.show q rest) (Todo.read_done None ∷ Todo.let_go ∷ todo) refl
+      ∙ (skips (Todo.read_done None) (Todo.let_go ∷ todo) refl ∙ skips Todo.let_go todo refl))))
+
+  settled-one : (c : Context) (until : Option ℕ) (q : Pending) (deadline : ℕ) → until ≡ Some deadline
+      → Count (settling image c until q) ≡ one_if (test (Todo.settle deadline (mark_for image c.thread (q ∷ []))))
+  settled-one c until q deadline is =
+      ap (λ (o : Option ℕ). Count (settling image c o q)) is
+      ∙ elim (test (Todo.settle deadline (mark_for image c.thread (q ∷ [])))) as (λ b. (if b then 0 + 1 else 0) ≡ one_if b) [ true ↦ refl | false ↦ refl ]
+
+  pub next-one : (c : Context) (steps : Steps) (deadline : ℕ) → Acts steps → armed_next image c steps ≡ Some deadline
+      → Count (next_steps image c steps) ≡ one_if (test (Todo.settle deadline (mark_for image c.thread steps)))
+  next-one c (Pending.Work a ask ∷ rest) deadline acts is =
+      let q = Pending.Work a ask in
+      noted-same c (noted_cell image (q ∷ [])) (Todo.show q rest ∷ settling image c (armed_for image c q) q)
+      ∙ (skips (Todo.show q rest) (settling image c (armed_for image c q) q) refl ∙ settled-one c (armed_for image c q) q deadline is)
+  next-one c (Pending.Join who timeout ∷ rest) deadline acts is =
+      let q = Pending.Join who timeout in
+      noted-same c (noted_cell image (q ∷ [])) (Todo.show q rest ∷ settling image c (armed_for image c q) q)
+      ∙ (skips (Todo.show q rest) (settling image c (armed_for image c q) q) refl ∙ settled-one c (armed_for image c q) q deadline is)
+  next-one c (Pending.FutexWait a value timeout ∷ rest) deadline acts is =
+      let q = Pending.FutexWait a value timeout in
+      noted-same c (noted_cell image (q ∷ [])) (on_memory q rest ++ settling image c (armed_for image c q) q)
+      ∙ (access-same q rest (settling image c (armed_for image c q) q) ∙ settled-one c (armed_for image c q) q deadline is)
+  next-one c steps deadline acts is = absurd acts
 
   -- What is behind a step: so many, and nothing only where that was nothing.
   module _ (todo : Todos) where
