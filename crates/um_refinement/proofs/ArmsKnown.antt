@@ -160,7 +160,7 @@ module _ (until : Option ℕ) where
   timer-armed ticks rest (inl (inr h)) = absurd h
   timer-armed ticks rest (inr h) = absurd h
 
-  timer-acts : (deadline : ℕ) (rest : Steps) → StartsTimer rest → Acts (to_deadline deadline rest)
+  pub timer-acts : (deadline : ℕ) (rest : Steps) → StartsTimer rest → Acts (to_deadline deadline rest)
   timer-acts deadline (Pending.Work a (Ask.TimerStart before) ∷ rest) h = h
   timer-acts deadline rest h = absurd h
 

@@ -1,32 +1,35 @@
 -- The marks of the clock after every lawful step: each that isn't settled is to be settled by a processor, and one that was given, or that is in a hand, is due.
-use Rattle.um_refinement.proofs.Words.{and_from, first_ready, has_ready, nat_tests, same-sound, if◌then◌else◌, ◌≡◌, inl, inr, ℕ, ◌+◌, ◌*◌, ◌<◌, ◌≤◌, Bool, true, false, cond, List, [], ◌∷◌, ◌++◌, Option, Some, None, refl, sym, ap, ◌∙◌, subst, arith, IsTrue, ◌==◌, ◌&&◌, eq-eqb, eqb-true, is_some, list_all, list_any, nat_le, nat_lt, and_parts, false≢true, true≢false, ltb-true, lt-ltb, le-leb, leb-true, unwrap_or, Act, Ask, Addr, ThreadIx, ROWS, Image, Pending, Steps, State, thread_at, FineAct, Unseen, More, Event, to_thread, act_in, is_word_read, Context, no_context, after_show, after_take, continues, answer_in, begins_cleaning, filled_up, goes_on_by, p_next, says_show, turn, refilled_by, row_named, resumed, next_steps, Todo, Todos, Processor, Exchange, FineStep, Site, Fine, Fits, AreFramed, Behind, behind_shown, counted, one_if, over_processors, scheduler, same_site, is_empty, as_thread, own_part, cpu_of, same_cpu}
+use Rattle.um_refinement.proofs.Words.{zero, suc, ◌||◌, Answer, IsOffered, thread_in, waits, and_from, first_ready, has_ready, nat_tests, same-sound, if◌then◌else◌, ◌≡◌, inl, inr, ℕ, ◌+◌, ◌*◌, ◌<◌, ◌≤◌, Bool, true, false, cond, List, [], ◌∷◌, ◌++◌, Option, Some, None, refl, sym, ap, ◌∙◌, subst, arith, IsTrue, ◌==◌, ◌&&◌, eq-eqb, eqb-true, is_some, list_all, list_any, nat_le, nat_lt, and_parts, false≢true, true≢false, ltb-true, lt-ltb, le-leb, leb-true, unwrap_or, Act, Ask, Addr, ThreadIx, ROWS, Image, Pending, Steps, State, thread_at, FineAct, Unseen, More, Event, to_thread, act_in, is_word_read, Context, no_context, after_show, after_take, continues, answer_in, begins_cleaning, filled_up, goes_on_by, p_next, says_show, turn, refilled_by, row_named, resumed, next_steps, Todo, Todos, Processor, Exchange, FineStep, Site, Fine, Fits, AreFramed, Behind, behind_shown, counted, one_if, over_processors, scheduler, same_site, is_empty, as_thread, own_part, cpu_of, same_cpu}
 use Rattle.um_words.specs.declared.fine.Mark.{Mark}
-use Rattle.um_fine.specs.Answers.{deadline_in, due_in, mark_in}
+use Rattle.um_fine.specs.Answers.{deadline_in, due_in, is_killed, mark_in}
 use Rattle.um_fine.specs.Asks.{by_actor, moves_show}
 use Rattle.um_fine.specs.Clock.{Clock, Marked, clock_after, clock_says, first_due, give_first, later as next_time, same_mark, settle_first}
 use Rattle.um_fine.specs.Follows.{rereads, shown_step}
-use Rattle.um_fine.specs.Places.{handling, is_paid, is_timer_start, mark_for}
+use Rattle.um_fine.specs.Places.{armed_for, handling, is_paid, is_timer_start, mark_for, put_away}
 use Rattle.um_fine.specs.Runs.{changed}
-use Rattle.um_machine.specs.Order.{to_row}
+use Rattle.um_machine.specs.Order.{to_deadline, to_row}
 use Rattle.um_machine.specs.Time.{next_deadline}
 use Rattle.um_refinement.specs.Fine.{clock}
 use Rattle.um_refinement.specs.Lists.{is_arm, times}
 use Rattle.um_refinement.specs.Stops.{is_waiting_site}
 use Rattle.um_refinement.specs.Timing.{IsHand, IsPaying, MarksAre, armed_next, handles, is_open, is_placed, is_sound, open_marks, settles}
-use Rattle.um_refinement.proofs.ArmsGone.{IsNone}
-use Rattle.um_refinement.proofs.ArmsKnown.{AreTimed}
+use Rattle.um_refinement.proofs.ArmSteps.{Acts, StartsTimer, Timed, Waiting, waiting-acts}
+use Rattle.um_refinement.proofs.ArmsGone.{IsNone, offered-stands}
+use Rattle.um_refinement.proofs.ArmsKnown.{AreTimed, Stands, armed, timer-acts, timer-armed}
 use Rattle.um_refinement.proofs.ClockSteps.{clock-else, clock-later, clock-said, is_timing, off-clock}
-use Rattle.um_refinement.proofs.Erased.{around}
+use Rattle.um_refinement.proofs.Erased.{around, later}
 use Rattle.um_refinement.proofs.Kept.{IdleStep, gives, idle-step, ticks as time_goes, turns}
 use Rattle.um_refinement.proofs.Leaves.{Lawful, Leaves}
 use Rattle.um_refinement.proofs.ListGrips.{next-context}
-use Rattle.um_refinement.proofs.ListMarks.{IsFree, TakesCalm, handles-of, in_hand, next-count, settles-of, skips, taken-count, takes-free}
+use Rattle.um_refinement.proofs.ListMarks.{IsFree, TakesCalm, handles-of, in_hand, next-count, next-made, next-one, settles-of, skips, taken-count, takes-free}
 use Rattle.um_refinement.proofs.MarkFacts.{all-armed, all-given, all-settled, due-among, due-parts, first-due, next-late, open-armed, open-given, open-settled, same-as, same-itself, same-placed, sound-given, sound-later, sound-settled}
 use Rattle.um_refinement.proofs.MemorySteps.{part-total}
+use Rattle.um_refinement.proofs.Offered.{own-unless, runs-first}
 use Rattle.um_refinement.proofs.ResumeSteps.{TellsWaiters}
 use Rattle.um_refinement.proofs.RowsPart.{named-below}
 use Rattle.um_refinement.proofs.SchedulerSteps.{made-at, made-moves, made-says}
 use Rattle.um_refinement.proofs.StepReads.{is-behind, is-placed, reads-last}
+use Rattle.um_refinement.proofs.StepsLeft.{offered-awake, offered-on}
 use Rattle.um_refinement.proofs.Sums.{over-changed}
 use Rattle.um_refinement.proofs.UnarmedPart.{arms_first, calm-now, takes-none}
 
@@ -252,3 +255,205 @@ module _ (f : Fine) (m : State) (e : FineStep) (law : Lawful f m e) (tells : Tel
             same (Todo.show q rest) todo at (untimed f m e law q rest off) off (skips f.image (settles d mark) (settles-of d mark) (Todo.show q rest) todo refl)
     by-todo (Todo.settle deadline other ∷ todo) at arms = settled deadline other todo at
     by-todo (q ∷ todo) at arms = same q todo at refl refl refl
+
+  -- A deadline is armed.
+
+  module _ (q : Pending) (rest : Steps) (todo : Todos) (at : p.todo ≡ Todo.show q rest ∷ todo) where
+    fits : IsOffered f.image p.context q rest × (todo ≡ behind_shown f.image p.context q)
+    fits = subst (Fits f.image p.context) at (law.rel.processors e.cpu law.by.named).list.fits
+
+    own-stands : waits (q ∷ rest) ≡ false → Stands p.context.until q rest
+    own-stands awake =
+        let of = (law.rel.contexts.running e.cpu law.by.named (runs-first law.rel law.by.named (Todo.show q rest) todo at (λ hand. hand))).of (offered-on f.image p.context q rest fits.0) in
+        let same = own-unless of (offered-awake f.image p.context q rest fits.0 awake) in
+        let here : Timed p.context.until p.context.pending =
+        subst (λ (z : Option ℕ × Steps). Timed z.0 z.1) (λ i. ((sym same i).until, (sym same i).pending)) (timed p.context.thread) in
+        offered-stands f.image p.context here q rest fits.0
+
+    -- what is on the list then
+    list-now : is_word_read e.act ≡ false → is_killed e.act ≡ false → (goes_on_by f.image p e (Todo.show q rest ∷ todo)) ≡ after_show f.image p e q rest todo
+    list-now read killed = λ i. if read i then record p { todo = put_away (thread_in e.word).doomed } else after_show f.image p e (if killed i then Pending.Killed else q) rest todo
+
+  waits-armed : (c : Context) (rest : Steps) (deadline : ℕ) → Waiting rest → c.until ≡ Some deadline → armed_next f.image c rest ≡ Some deadline
+  waits-armed c (Pending.Work a ask ∷ rest) deadline h is = by ask h.0
+    where
+      by : (ask : Ask) → is_timer_start ask ≡ false → armed_for f.image c (Pending.Work a ask) ≡ Some deadline
+      by (Ask.TimerStart d) off = absurd (true≢false off)
+      by ask off = is
+  waits-armed c (Pending.Join who timeout ∷ rest) deadline h is = is
+  waits-armed c (Pending.FutexWait a value timeout ∷ rest) deadline h is = is
+  waits-armed c steps deadline h is = absurd h
+
+  starts-armed : (c : Context) (rest : Steps) (deadline : ℕ) → StartsTimer rest
+      → (armed_next f.image c (to_deadline deadline rest) ≡ Some deadline) × (mark_for f.image c.thread (to_deadline deadline rest) ≡ mark_for f.image c.thread rest)
+  starts-armed c (Pending.Work a (Ask.TimerStart before) ∷ rest) deadline h = (refl, refl)
+  starts-armed c rest deadline h = absurd h
+
+  no-reread : (answer : Answer) (todo : Todos) → rereads f.image answer None todo ≡ todo
+  no-reread Answer.Wait todo = refl
+  no-reread (Answer.Now reply) todo = refl
+
+  module _ (d : ℕ) (mark : Mark) where
+    abbrev so : ℕ → Mark → ℕ
+    so deadline other = one_if (deadline == d && same_mark other mark)
+
+    armed-by : (q : Pending) (rest : Steps) (todo : Todos) → p.todo ≡ Todo.show q rest ∷ todo → todo ≡ [] → (deadline : ℕ) (other : Mark)
+        → open_marks d mark (clock later).marks ≡ open_marks d mark (clock f).marks + so deadline other
+        → counted (settles d mark) now.todo ≡ so deadline other → Goal d mark
+    armed-by q rest todo at alone deadline other opens counts =
+        let before : counted (settles d mark) p.todo ≡ 0 = ap (counted (settles d mark)) (at ∙ ap (λ (z : Todos). Todo.show q rest ∷ z) alone) in
+        settles-by d mark (open_marks d mark (clock f).marks + so deadline other) (so deadline other) opens counts (omega (arith, before))
+
+    counts-by : (q : Pending) (rest : Steps) (todo : Todos) (at : p.todo ≡ Todo.show q rest ∷ todo) → todo ≡ [] → is_word_read e.act ≡ false → is_killed e.act ≡ false → (steps : Steps)
+        → (after_show f.image p e q rest []).todo ≡ next_steps f.image (continues f.image p.context 0 q rest (act_in e.act) e.moved) steps
+        → Acts steps → (deadline : ℕ) → armed_next f.image (continues f.image p.context 0 q rest (act_in e.act) e.moved) steps ≡ Some deadline
+        → counted (settles d mark) now.todo ≡ so deadline (mark_for f.image (continues f.image p.context 0 q rest (act_in e.act) e.moved).thread steps)
+    counts-by q rest todo at alone read killed steps expanded acts deadline armed =
+        let c = continues f.image p.context 0 q rest (act_in e.act) e.moved in
+        next-made f.image (settles d mark) (settles-of d mark) [] p e
+        ∙ (ap (λ (z : Todos). counted (settles d mark) (goes_on_by f.image p e z).todo) at
+        ∙ (ap (λ (r : Processor). counted (settles d mark) r.todo) (list-now q rest todo at read killed)
+        ∙ (ap (λ (z : Todos). counted (settles d mark) (after_show f.image p e q rest z).todo) alone
+        ∙ (ap (counted (settles d mark)) expanded ∙ next-one f.image (settles d mark) (settles-of d mark) c steps deadline acts armed))))
+
+    arms : (q : Pending) (rest : Steps) (todo : Todos) → p.todo ≡ Todo.show q rest ∷ todo → is_arm q ≡ true → Goal d mark
+    arms (Pending.Arm ticks) rest todo at on =
+        let q = Pending.Arm ticks in
+        let said = made-says f m e law (Todo.show q rest ∷ todo) at in
+        let moved : mark_in e.moved ≡ mark_for f.image p.context.thread rest = ap mark_in (made-moves f m e law (Todo.show q rest ∷ todo) at) in
+        let deadline = deadline_in (act_in e.act) in
+        let c = continues f.image p.context 0 q rest (act_in e.act) e.moved in
+        let waiting = armed p.context.until ticks rest (own-stands q rest todo at refl) in
+        let opens = ap (λ (c : Clock). open_marks d mark c.marks) (clock-later f m e law (made-at f m e law (Todo.show q rest ∷ todo) at) _ said) ∙ open-armed d mark (clock f).marks _ in
+        armed-by q rest todo at (fits q rest todo at).1 deadline (mark_for f.image p.context.thread rest)
+        (opens ∙ ap (λ (k : Mark). open_marks d mark (clock f).marks + so deadline k) moved)
+        (counts-by q rest todo at (fits q rest todo at).1 (ap is_word_read said) (ap is_killed said) rest
+          (ap (filled_up f.image c) (no-reread (answer_in (act_in e.act)) [])) (waiting-acts rest waiting) deadline (waits-armed c rest deadline waiting refl))
+    arms (Pending.ArmTimer ticks) rest todo at on =
+        let q = Pending.ArmTimer ticks in
+        let said = made-says f m e law (Todo.show q rest ∷ todo) at in
+        let moved : mark_in e.moved ≡ mark_for f.image p.context.thread rest = ap mark_in (made-moves f m e law (Todo.show q rest ∷ todo) at) in
+        let deadline = deadline_in (act_in e.act) in
+        let c = continues f.image p.context 0 q rest (act_in e.act) e.moved in
+        let starts = timer-armed p.context.until ticks rest (own-stands q rest todo at refl) in
+        let opens = ap (λ (c : Clock). open_marks d mark c.marks) (clock-later f m e law (made-at f m e law (Todo.show q rest ∷ todo) at) _ said) ∙ open-armed d mark (clock f).marks _ in
+        let there = starts-armed c rest deadline starts in
+        armed-by q rest todo at (fits q rest todo at).1 deadline (mark_for f.image p.context.thread rest)
+        (opens ∙ ap (λ (k : Mark). open_marks d mark (clock f).marks + so deadline k) moved)
+        (counts-by q rest todo at (fits q rest todo at).1 (ap is_word_read said) (ap is_killed said) (to_deadline deadline rest)
+          (ap (filled_up f.image c) (no-reread (answer_in (act_in e.act)) [])) (timer-acts p.context.until deadline rest starts) deadline there.0
+          ∙ ap (so deadline) there.1)
+    arms q rest todo at on = absurd (false≢true on)
+
+    pub unsettled-part : Goal d mark
+    unsettled-part = by-todo d mark p.todo refl arms
+
+-- A mark in a hand is due.
+
+module _ (f : Fine) (m : State) (e : FineStep) (law : Lawful f m e) where
+  open around f e use {later, processor as p, now}
+
+  -- a list with a mark to handle has it first, and then it is paid
+  paying-none : (d : ℕ) (mark : Mark) (todo : Todos) → IsPaying todo → counted (handles d mark) todo ≡ 0
+  paying-none d mark [] h = absurd h
+  paying-none d mark (Todo.wake who told ∷ todo) h = paying-none d mark todo h
+  paying-none d mark (Todo.paid ∷ todo) h = ap (counted (handles d mark)) h
+  paying-none d mark (q ∷ todo) h = absurd h
+
+  hand-tail : (d : ℕ) (mark : Mark) (q : Todo) (todo : Todos) → IsHand (q ∷ todo) → counted (handles d mark) todo ≡ 0
+  hand-tail d mark (Todo.handle deadline other) todo h = ap (counted (handles d mark)) h
+  hand-tail d mark (Todo.wake who told) todo h = paying-none d mark todo h
+  hand-tail d mark Todo.paid todo h = ap (counted (handles d mark)) h
+  hand-tail d mark q todo h = absurd h
+
+  handle-paid : (d : ℕ) (mark : Mark) (todo : Todos) → AreFramed f.image todo → 0 < counted (handles d mark) todo → times todo ≡ true
+  handle-paid d mark [] framed some = absurd (omega (arith, some))
+  handle-paid d mark (Todo.handle deadline other ∷ todo) framed some = ap times framed.0
+  handle-paid d mark (q ∷ todo) framed some =
+      elim (is_paid q) as (λ b. (b || times todo) ≡ true) [ true ↦ refl | false ↦ handle-paid d mark todo framed.1 some ]
+
+  -- so a list with anything in front of it has none
+  tail-none : (d : ℕ) (mark : Mark) (q : Todo) (todo : Todos) → p.todo ≡ q ∷ todo → (n : ℕ) → counted (handles d mark) todo ≡ n → n ≡ 0
+  tail-none d mark q todo at zero is = refl
+  tail-none d mark q todo at (suc n) is =
+      let k = law.rel.processors e.cpu law.by.named in
+      let paid = handle-paid d mark todo (subst (AreFramed f.image) at k.frames).1 (omega (arith, is)) in
+      let timed : times p.todo ≡ true = ap times at ∙ elim (is_paid q) as (λ b. (b || times todo) ≡ true) [ true ↦ refl | false ↦ paid ] in
+      let none = hand-tail d mark q todo (subst IsHand at (k.timer.hand timed)) in
+      absurd (omega (arith, is, none))
+
+  abbrev IsDue : ℕ → Mark → Type 0
+  IsDue d mark = (is_placed mark ≡ true) × (d ≤ (clock later).now)
+
+  head-counts : (d : ℕ) (mark : Mark) (todo : Todos) → now.todo ≡ Todo.handle d mark ∷ todo → 0 < counted (handles d mark) now.todo
+  head-counts d mark todo at =
+      let one : counted (handles d mark) now.todo ≡ counted (handles d mark) todo + 1 =
+      ap (counted (handles d mark)) at ∙ ap (λ b. if b then counted (handles d mark) todo + 1 else counted (handles d mark) todo) (and_from (d == d) (same_mark mark mark) (eq-eqb d d refl) (same-itself mark)) in
+      omega (arith, one)
+
+  hand-now : (d : ℕ) (mark : Mark) (todo : Todos) → now.todo ≡ Todo.handle d mark ∷ todo → IsDue d mark
+  hand-now d mark todo at = by p.todo refl
+    where
+      some : 0 < counted (handles d mark) now.todo
+      some = head-counts d mark todo at
+
+      taken : p.todo ≡ [] → IsDue d mark
+      taken idle = which (idle-step f m law.rel p e law.by.may law.taken idle)
+        where
+          counts : (moved : Exchange) → e.moved ≡ moved → counted (handles d mark) now.todo ≡ in_hand f.image (handles d mark) (handles-of d mark) moved
+          counts moved given =
+              taken-count f.image (handles d mark) (handles-of d mark) p e idle (takes-free f.image (handles d mark) (handles-of d mark) (λ deadline other. refl) e.moved)
+              ∙ ap (in_hand f.image (handles d mark) (handles-of d mark)) given
+
+          none : (moved : Exchange) → e.moved ≡ moved → in_hand f.image (handles d mark) (handles-of d mark) moved ≡ 0 → IsDue d mark
+          none moved given nil = let is = counts moved given in absurd (omega (arith, is, nil, some))
+
+          same : (x : Marked) → (b : Bool) → (x.deadline == d && same_mark x.mark mark) ≡ b → e.moved ≡ Exchange.mark x.deadline x.mark → first_due (clock f).now (clock f).marks ≡ Some x → IsDue d mark
+          same x true is given due =
+              let parts = and_parts (x.deadline == d) (same_mark x.mark mark) is in
+              let at = eqb-true x.deadline d parts.0 in
+              let come = leb-true x.deadline (clock f).now (due-parts (clock f).now x (first-due (clock f).now (clock f).marks x due)).0 in
+              let late = time-goes f m e law in (
+                sym (same-placed x.mark mark parts.1) ∙ due-among is_placed (clock f).now (clock f).marks x law.rel.marks.placed due,
+                omega (arith, at, come, late),
+              )
+          same x false is given due = none (Exchange.mark x.deadline x.mark) given (ap (λ b. if b then 0 + 1 else 0) is)
+
+          which : IdleStep f p e → IsDue d mark
+          which (turns site said ready moved) = by (scheduler f).ready ready moved
+            where
+              by : (list : List ℕ) → IsTrue (has_ready (scheduler f) list) → first_ready (scheduler f) list ≡ e.moved → IsDue d mark
+              by [] has moved = absurd (false≢true has)
+              by (t ∷ list) has moved = none (first_ready (scheduler f) (t ∷ list)) (sym moved) refl
+          which (gives x site said due moved) = same x (x.deadline == d && same_mark x.mark mark) refl moved due
+          which (time_goes n site said next moved) = none Exchange.nothing moved refl
+
+      by : (list : Todos) → p.todo ≡ list → IsDue d mark
+      by [] idle = taken idle
+      by (q ∷ list) there =
+          let same = next-count f.image (handles d mark) (handles-of d mark) list p e q there ((is-behind f m e law).frame q list there) (reads-last f m e law q list there) (λ alone. inr (λ deadline other. refl)) in
+          let none = tail-none d mark q list there (counted (handles d mark) list) refl in
+          absurd (omega (arith, same, none, some))
+
+  pub hands-part : (k d : ℕ) (mark : Mark) (todo : Todos) → k < f.cpus → (later.processors k).todo ≡ Todo.handle d mark ∷ todo → (d ≤ (clock later).now) × (is_placed mark ≡ true)
+  hands-part k d mark todo l at = by (e.cpu == k) refl at
+    where
+      by : (b : Bool) → (e.cpu == k) ≡ b → (cond b (p_next f.image (f.processors k) e) (f.processors k)).todo ≡ Todo.handle d mark ∷ todo → (d ≤ (clock later).now) × (is_placed mark ≡ true)
+      by true q at =
+          let due = hand-now d mark todo (subst (λ j. (p_next f.image (f.processors j) e).todo ≡ Todo.handle d mark ∷ todo) (sym (eqb-true e.cpu k q)) at) in (due.1, due.0)
+      by false q at =
+          let was = law.rel.marks.hands k d mark todo l at in
+          let come = was.0 in
+          let late = time-goes f m e law in (omega (arith, come, late), was.1)
+
+-- All of it.
+
+pub marks-part : (f : Fine) (m : State) (e : FineStep) (law : Lawful f m e) → TellsWaiters m → AreTimed m → (s : State) → Leaves f m e s → MarksAre (later f e)
+marks-part f m e law tells timed s leaves =
+    let kept = marks-kept f m e law in
+    record {
+      unsettled = λ d mark. unsettled-part f m e law tells timed s leaves d mark;
+      given = kept.0;
+      hands = hands-part f m e law;
+      placed = kept.1;
+    }
