@@ -82,7 +82,7 @@ and-true : (b : Bool) → (b && true) ≡ b
 and-true true = refl
 and-true false = refl
 
-over-grip : (todo : Todos) → IsWaitOver todo → (grip (Todo.let_go ∷ todo) ≡ true) × (grip todo ≡ false)
+pub over-grip : (todo : Todos) → IsWaitOver todo → (grip (Todo.let_go ∷ todo) ≡ true) × (grip todo ≡ false)
 over-grip _ nothing = (refl, refl)
 over-grip _ settled = (refl, refl)
 over-grip _ rereads = (refl, refl)

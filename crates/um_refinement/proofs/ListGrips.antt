@@ -1,5 +1,7 @@
 -- Whether a processor holds its thread changes at a hold and its end alone; and it goes on with the same thread until the end of a turn.
-use Rattle.um_refinement.proofs.Words.{◌≡◌, ℕ, Bool, true, false, thread_in, [], ◌∷◌, ◌++◌, refl, sym, ap, ◌∙◌, ◌&&◌, not, if◌then◌else◌, list_any, false≢true, true≢false, Image, Pending, Steps, FineAct, act_in, is_visit, is_word_read, Context, FineStep, Todo, Todos, fine_steps, Processor, after_show, dropped_at, filled_up, goes_on_by, p_next, with_cleaned, begins_cleaning, says_show, Behind, is_hold, is_let_go, behind_shown}
+use Rattle.um_refinement.proofs.Words.{◌≡◌, ℕ, Bool, true, false, thread_in, [], ◌∷◌, ◌++◌, refl, sym, ap, ◌∙◌, ◌&&◌, not, if◌then◌else◌, list_any, false≢true, true≢false, Image, Pending, Steps, FineAct, act_in, is_visit, is_word_read, Context, FineStep, Todo, Todos, fine_steps, Processor, after_show, dropped_at, filled_up, goes_on_by, p_next, with_cleaned, begins_cleaning, says_show, Behind, is_hold, is_let_go, behind_shown, Act, allows}
+use Rattle.um_base.specs.declared.names.Access.TheVariants as Access
+use Rattle.um_fine.specs.Answers.{is_killed, is_killed_act}
 use Rattle.um_fine.specs.Follows.{shown_step, with_actor}
 use Rattle.um_fine.specs.Places.{put_away}
 use Rattle.um_refinement.specs.Frames.{IsActOver, access_alone, access_settled, act_alone, act_settled}
@@ -21,6 +23,24 @@ pub read-rests : (image : Image) (p : Processor) (c : Context) (q : Pending) (ac
 read-rests image p c Pending.Begin act said read = refl
 read-rests image p c Pending.Exit act said read = refl
 read-rests image p c q act said read = absurd (true≢false (sym read ∙ ap is_word_read said))
+
+-- one of two acts that are no kill
+neither : (b : Bool) (one two : Act) → is_killed_act one ≡ false → is_killed_act two ≡ false → is_killed_act (if b then one else two) ≡ false
+neither true one two h k = h
+neither false one two h k = k
+
+-- nor has one that is a kill
+pub kill-rests : (image : Image) (p : Processor) (c : Context) (q : Pending) (act : FineAct) → act ≡ says_show image p q act → is_killed act ≡ true → behind_shown image c q ≡ []
+kill-rests image p c Pending.Begin act said kill = refl
+kill-rests image p c Pending.Exit act said kill = refl
+kill-rests image p c Pending.Killed act said kill = refl
+kill-rests image p c (Pending.Load to a n) act said kill =
+    absurd (false≢true (sym (neither (allows image p Access.Read a.0 n) _ _ refl refl) ∙ (sym (ap is_killed said) ∙ kill)))
+kill-rests image p c (Pending.Store a n value) act said kill =
+    absurd (false≢true (sym (neither (allows image p Access.Write a.0 n) _ _ refl refl) ∙ (sym (ap is_killed said) ∙ kill)))
+kill-rests image p c (Pending.Fetch a) act said kill =
+    absurd (false≢true (sym (neither (allows image p Access.Exec a.0 4) _ _ refl refl) ∙ (sym (ap is_killed said) ∙ kill)))
+kill-rests image p c q act said kill = absurd (true≢false (sym kill ∙ ap is_killed said))
 
 grip-passed : (q : Todo) (todo : Todos) → is_passed q ≡ true → grip (q ∷ todo) ≡ grip todo
 grip-passed Todo.hold todo h = absurd (false≢true h)

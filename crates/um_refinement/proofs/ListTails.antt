@@ -1,6 +1,6 @@
 -- What is read of a list that passes over the steps of turns, visits and cleaning, over wakes and the ends of calls, and finds nothing where
 -- the next pending step is expanded: after a step of the processor it is what is read of the list behind that step.
-use Rattle.um_refinement.proofs.Words.{◌≡◌, ℕ, ◌+◌, Bool, true, false, ◌∷◌, ◌++◌, Option, Some, None, refl, sym, ap, ◌∙◌, [], nat_lt, false≢true, true≢false, Image, ROWS, thread_of_row, Pending, Steps, is_visit, begins_cleaning, Context, dropped_at, filled_up, goes_on_by, p_next, row_number, with_cleaned, behind_step, context_in, thread_in, Todo, Todos, cleaning_of, emptying, end_of_turn, fine_steps, is_cleaning_todo, next_steps, Processor, FineStep, Behind, names_row}
+use Rattle.um_refinement.proofs.Words.{◌≡◌, ℕ, ◌+◌, Bool, true, false, ◌∷◌, ◌++◌, Option, Some, None, refl, sym, ap, ◌∙◌, [], nat_lt, false≢true, true≢false, Image, ROWS, thread_of_row, Pending, Steps, is_visit, begins_cleaning, Context, dropped_at, filled_up, goes_on_by, p_next, row_number, with_cleaned, behind_step, context_in, thread_in, Todo, Todos, cleaning_of, emptying, end_of_turn, fine_steps, is_cleaning_todo, next_steps, Processor, FineStep, FineAct, Unseen, Behind, names_row}
 use Rattle.um_words.specs.declared.fine.Mark.{Mark}
 use Rattle.um_fine.specs.Follows.{shown_step, with_actor}
 use Rattle.um_fine.specs.Places.{handling, put_away}
@@ -188,3 +188,9 @@ module _ {A : Type 0} (image : Image) (read : Todos → A) (none : A) (reads : R
 -- what a processor is after a step that begins no cleaning
 pub exact-next : (image : Image) (p : Processor) (e : FineStep) (todo : Todos) → p.todo ≡ todo → begins_cleaning e ≡ false → p_next image p e ≡ with_actor image (goes_on_by image p e todo) e.act
 exact-next image p e todo at quiet = λ i. with_actor image (with_cleaned image (goes_on_by image p e (at i)) e (quiet i)) e.act
+
+-- one that no trace shows leaves who made its last event
+pub quiet-next : (image : Image) (p : Processor) (e : FineStep) (todo : Todos) (u : Unseen) → p.todo ≡ todo → e.act ≡ FineAct.Unseen u → begins_cleaning (record e { act = FineAct.Unseen u }) ≡ false
+    → p_next image p e ≡ goes_on_by image p e todo
+quiet-next image p e todo u at said quiet =
+    exact-next image p e todo at (ap (λ a. begins_cleaning (record e { act = a })) said ∙ quiet) ∙ ap (with_actor image (goes_on_by image p e todo)) said

@@ -1,5 +1,7 @@
 -- What is read of a processor's list of its region table, and which steps leave what a table is of.
-use Rattle.um_refinement.proofs.Words.{◌≡◌, inl, inr, ℕ, Bool, true, false, List, [], ◌∷◌, Option, Some, None, refl, sym, ap, ◌∙◌, ◌==◌, ◌&&◌, not, if◌then◌else◌, list_any, and_parts, eqb-true, false≢true, true≢false, Act, Image, Pending, Thread, Change, Next, Steps, domain_in, is_word_read, begins_cleaning, Context, as_thread, came_in, changed_part, continues, gone_part, after_claim, after_show, after_take, goes_on_by, p_next, with_cleaned, Todo, Todos, fine_steps, Processor, is_of, Exchange, FineStep, AreFramed, Behind, OnMemory, has_steps, is_region_load, behind_shown, Table, same_mode, ◌++◌, FineAct, thread_in, is_empty, turn, refilled_by, access_over}
+use Rattle.um_refinement.proofs.Words.{◌≡◌, inl, inr, ℕ, Bool, true, false, List, [], ◌∷◌, Option, Some, None, refl, sym, ap, ◌∙◌, ◌==◌, ◌&&◌, not, if◌then◌else◌, list_any, and_parts, eqb-true, false≢true, true≢false, Act, Image, Pending, Thread, Change, Next, Steps, domain_in, is_word_read, begins_cleaning, Context, as_thread, came_in, changed_part, continues, gone_part, after_claim, after_show, after_take, goes_on_by, p_next, with_cleaned, Todo, Todos, fine_steps, Processor, is_of, Exchange, FineStep, AreFramed, Behind, OnMemory, has_steps, is_region_load, behind_shown, Table, same_mode, ◌++◌, FineAct, thread_in, is_empty, turn, refilled_by, access_over, Fine, State, Rel, runs, ◌<◌}
+use Rattle.um_refinement.specs.Lists.{times}
+use Rattle.um_refinement.specs.Timing.{IsHand, IsPaying}
 use Rattle.um_machine.specs.Table as T
 use Rattle.um_fine.specs.declared.table.TableKey.{TableKey}
 use Rattle.um_fine.specs.Follows.{shown_step, with_actor}
@@ -48,6 +50,32 @@ ready-reads image = record { empty = refl; passed = ready-passed; expanded = rea
 pub claimed-steps : (todo : Todos) → claimed todo ≡ true → has_steps todo ≡ true
 claimed-steps [] h = absurd (false≢true h)
 claimed-steps (q ∷ todo) h = refl
+
+-- one with a mark in its hand holds no thread, so one that does runs it
+paying-grip : (todo : Todos) → IsPaying todo → grip todo ≡ false
+paying-grip [] h = absurd h
+paying-grip (Todo.wake who told ∷ todo) h = paying-grip todo h
+paying-grip (Todo.paid ∷ todo) h = ap grip h
+paying-grip (q ∷ todo) h = absurd h
+
+hand-grip : (todo : Todos) → IsHand todo → grip todo ≡ false
+hand-grip [] h = absurd h
+hand-grip (Todo.handle deadline mark ∷ todo) h = ap grip h
+hand-grip (q ∷ todo) h = paying-grip (q ∷ todo) h
+
+pub grip-runs : {f : Fine} {m : State} {k : ℕ} → Rel f m → k < f.cpus → grip (f.processors k).todo ≡ true → runs (f.processors k) ≡ true
+grip-runs {f} {m} {k} rel l held = by (times (f.processors k).todo) refl
+  where
+    some : has_steps (f.processors k).todo ≡ true
+    some = which (f.processors k).todo held
+      where
+        which : (todo : Todos) → grip todo ≡ true → has_steps todo ≡ true
+        which [] h = absurd (false≢true h)
+        which (q ∷ todo) h = refl
+
+    by : (b : Bool) → times (f.processors k).todo ≡ b → runs (f.processors k) ≡ true
+    by true e = absurd (false≢true (sym (hand-grip (f.processors k).todo ((rel.processors k l).timer.hand e)) ∙ held))
+    by false e = λ i. some i && not (e i)
 
 -- a processor with a claim of its thread's domain holds the thread
 over-unclaimed : (todo : Todos) → IsWaitOver todo → claimed todo ≡ false
