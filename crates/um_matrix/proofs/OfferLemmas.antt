@@ -19,7 +19,6 @@ use Rattle.um_machine.specs.Joins.{is_ending}
 use Rattle.um_machine.specs.Time.{has_come, has_run_out}
 use Rattle.um_machine.specs.Table.{act_of, after}
 use Rattle.um_machine.specs.Run.{Offers, goes, skips_inherit, skips_drops, begins, exits, stops, leaves, tends, may_go, must_stop, waits_at, MayChoose, Step, IsComplete, none_due}
-use Rattle.um_matrix.specs.declared.matrix.choice.Choice.{Choice}
 use Rattle.um_matrix.specs.Offered.{line_act, line_step, rest_act, rest_choice, rest_step, first_step, second_step, is_skipped, row_count, Says, SaysNot, ChoosesNone, is_tending, tending_of, IsChoice, IsStep, IsNoStep, IsIdle, event_of}
 
 -- Rows.
@@ -316,21 +315,19 @@ rest-if-none s t None none e = λ p f.
 pub clean-step : (s : State) (t x : ℕ) (step : Pending) (act : Act) → IsTrue (is_started (thread_at s t).life) → IsTrue (is_tending step) → MayChoose s t x step → act ≡ act_of s t x step → IsStep s (event_of t act)
 clean-step s t x step act started h m says = (_, step-tends s t x act step h started m says)
 
-pub says-tends : (s : State) (t : ℕ) (p : Pending) (o : Option Act) → IsTrue (is_tending p) → IsTrue (is_started (thread_at s t).life) → IfSome o (λ act. Says s t act p) → IfSome o (λ act. IsStep s (event_of t act))
-says-tends s t p None h started says = tt
-says-tends s t p (Some act) h started says = (_, step-tends s t says.0 act p h started says.1 says.2)
+pub tends-said : (s : State) (t : ℕ) (p : Pending) (act : Act) → IsTrue (is_tending p) → IsTrue (is_started (thread_at s t).life) → Says s t act p → IsStep s (event_of t act)
+tends-said s t p act h started says = (_, step-tends s t says.0 act p h started says.1 says.2)
 
-pub says-leaves : (s : State) (t : ℕ) (o : Option Act) → IsTrue (is_ending (thread_at s t)) → IfSome o (λ act. Says s t act Pending.Left) → IfSome o (λ act. IsStep s (event_of t act))
-says-leaves s t None ending says = tt
-says-leaves s t (Some act) ending says = (_, step-leaves s t says.0 act ending says.1 says.2)
+pub leaves-said : (s : State) (t : ℕ) (act : Act) → IsTrue (is_ending (thread_at s t)) → Says s t act Pending.Left → IsStep s (event_of t act)
+leaves-said s t act ending says = (_, step-leaves s t says.0 act ending says.1 says.2)
 
 -- nobody past the thread indices waits
-late-past : (s : State) (t x : ℕ) (who : ThreadIx) → length s.threads ≡ THREADS → THREADS ≤ who.0 → MayChoose s t x (Pending.TimeOut who) → ⊥
+pub late-past : (s : State) (t x : ℕ) (who : ThreadIx) → length s.threads ≡ THREADS → THREADS ≤ who.0 → MayChoose s t x (Pending.TimeOut who) → ⊥
 late-past s t x who whole past m =
     let none : has_come s.now (thread_at s who.0).until ≡ false = rw (get_or-eq_default s.threads nobody {n = who.0} (omega arith)) refl in
     let yes = (and_parts (has_come s.now (thread_at s who.0).until) (waits_at s who.0 x) m).0 in cc
 
-cut-past : (s : State) (t x : ℕ) (who : ThreadIx) → length s.threads ≡ THREADS → THREADS ≤ who.0 → MayChoose s t x (Pending.Cut who) → ⊥
+pub cut-past : (s : State) (t x : ℕ) (who : ThreadIx) → length s.threads ≡ THREADS → THREADS ≤ who.0 → MayChoose s t x (Pending.Cut who) → ⊥
 cut-past s t x who whole past m =
     let none : (thread_at s who.0).aborted ≡ false = rw (get_or-eq_default s.threads nobody {n = who.0} (omega arith)) refl in
     let yes = (and_parts (thread_at s who.0).aborted (waits_at s who.0 x) m).0 in cc

@@ -1,3 +1,4 @@
 pub mod Offered
 pub mod Worked
 pub mod Lending
+pub mod OfRun

@@ -1,6 +1,5 @@
 -- Which steps a thread is offered, and what may be made of an act.
-use Rattle.std.specs.Prelude.{◌≡◌, ℕ, ◌+◌, ◌<◌, Bool, true, false, ◌&&◌, not, IsTrue, if◌then◌else◌, List, [], take, drop, slice_get, Option, Some, None}
-use Rattle.um_base.specs.declared.names.ThreadIx.{ThreadIx}
+use Rattle.std.specs.Prelude.{◌≡◌, ℕ, ◌+◌, ◌<◌, not, IsTrue, if◌then◌else◌, List, [], take, drop, slice_get, Option, Some, None}
 use Rattle.um_base.specs.declared.act.Act.{Act}
 use Rattle.um_base.specs.declared.act.Event.{Event}
 use Rattle.um_base.specs.declared.act.Found.{Found}
@@ -12,7 +11,7 @@ use Rattle.um_machine.specs.Limits.{IsSound}
 use Rattle.um_machine.specs.State.{State, thread_at, is_living, instruction_at}
 use Rattle.um_machine.specs.Table.{act_of, after}
 use Rattle.um_machine.specs.Run.{Step, Runs, MayChoose}
-use Rattle.um_matrix.specs.declared.matrix.choice.Choice.{Choice}
+use Rattle.um_matrix.specs.declared.tables.choice.Choice.{Choice}
 pub use Rattle.um_machine.specs.Run.{is_tending, may_go, must_stop}
 pub use Rattle.um_invariants.specs.NextSteps.{first_or, first_step, is_skipped, line_step, rest_step, second_step}
 

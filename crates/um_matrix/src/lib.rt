@@ -5,5 +5,7 @@ mod clock;
 mod matrix;
 mod object_table;
 mod places;
+mod tables;
 
 pub use matrix::{Matrix, NotAStep};
+pub use tables::{Choice, Tables};
