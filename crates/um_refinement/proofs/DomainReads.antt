@@ -179,7 +179,7 @@ pub edits-no-move : (d e : ℕ) (reply : Reply) (q : Pending) → edits_step e q
 edits-no-move d e reply (Pending.DomMove k who) h = absurd (false≢true h)
 edits-no-move d e reply q h = refl
 
-over-claimed : (over : Todos) → IsWaitOver over → list_any is_own_claim over ≡ false
+pub over-claimed : (over : Todos) → IsWaitOver over → list_any is_own_claim over ≡ false
 over-claimed _ nothing = refl
 over-claimed _ settled = refl
 over-claimed _ rereads = refl

@@ -78,7 +78,7 @@ grip-runs {f} {m} {k} rel l held = by (times (f.processors k).todo) refl
     by false e = λ i. some i && not (e i)
 
 -- a processor with a claim of its thread's domain holds the thread
-over-unclaimed : (todo : Todos) → IsWaitOver todo → claimed todo ≡ false
+pub over-unclaimed : (todo : Todos) → IsWaitOver todo → claimed todo ≡ false
 over-unclaimed _ nothing = refl
 over-unclaimed _ settled = refl
 over-unclaimed _ rereads = refl
