@@ -116,7 +116,7 @@ module _ (f : Fine) (m : State) (e : FineStep) (law : Lawful f m e) where
       (all-armed (is_sound (clock f).now) (clock f).marks _ was-kept.0 refl, all-armed (λ (x : Marked). is_placed x.mark) (clock f).marks _ was-kept.1 (ap is_placed moved ∙ mark-placed p.context.thread rest))
   arms-kept q rest todo at on = absurd (false≢true on)
 
-  untimed : (q : Pending) (rest : Steps) → is_arm q ≡ false → is_timing (Todo.show q rest) ≡ false
+  pub untimed : (q : Pending) (rest : Steps) → is_arm q ≡ false → is_timing (Todo.show q rest) ≡ false
   untimed (Pending.Arm ticks) rest off = off
   untimed (Pending.ArmTimer ticks) rest off = off
   untimed q rest off = refl
