@@ -1,0 +1,175 @@
+//! The contents of the clock's cell.
+
+ghost use Rattle.std.specs.Prelude.{◌≡◌, ◌<◌, ◌≤◌, ◌+◌, [], ◌∷◌, ◌++◌, None, drop, length, if◌then◌else◌, nat_lt, false, IfOk, MatchOption};
+ghost use Rattle.um_fine.specs.Clock.{deadlines, first_due, give_first, settle_first};
+ghost use Rattle.um_machine.specs.Time.{least, next_deadline};
+ghost use Rattle.um_tables.specs.Timed.{at_rest, given_of, later_of, time_of, with_marks, with_time};
+
+use crate::marked::Marked;
+use std::alloc::Global;
+use std::marker::Model;
+use um_base::OutOfMemory;
+use um_words::Mark;
+
+/// Virtual time, and the marks that were armed, in their order. Room for all is reserved from the beginning.
+#[derive(Drop)]
+pub struct Clock {
+    time: u64,
+    marks: Vec<Marked>,
+}
+
+impl Model for Clock {
+    ghost use Rattle.std.specs.Prelude.{vec_capacity};
+    ghost use Rattle.um_tables.specs.Timed.{AreNear, Timed};
+
+    ghost Value = { Timed };
+
+    ghost view = { λ c. record {
+      clock = record { now = c.time; marks = c.marks.items };
+      most = vec_capacity c.marks;
+    } };
+
+    ghost invariant = { λ c. AreNear (record { now = c.time; marks = c.marks.items }) };
+}
+
+/// The lesser of a deadline and one that may not be there.
+fn least(deadline: u64, other: Option<u64>) -> Option<u64>
+    ensures { result ≡ least deadline other }
+{
+    match other {
+        Some(other) if other < deadline => Some(other),
+        _ => Some(deadline),
+    }
+}
+
+/// The least deadline above a moment, of one and of those behind it.
+fn nearer(now: u64, deadline: u64, behind: Option<u64>) -> Option<u64>
+    ensures { result ≡ if nat_lt now deadline then least deadline behind else behind }
+{
+    if now < deadline {
+        least(deadline, behind)
+    } else {
+        behind
+    }
+}
+
+/// The least one of the marks from a place on, by the least one of those behind it.
+fn nearer_at(now: u64, marks: &[Marked], i: usize, behind: Option<u64>) -> Option<u64>
+    requires here { i < length marks.now }
+    requires there { behind ≡ next_deadline now (deadlines (drop (i + 1) marks.now)) }
+    ensures { result ≡ next_deadline now (deadlines (drop i marks.now)) }
+{
+    nearer(now, marks[i].deadline(), behind)
+}
+
+/// The least deadline of marks above a moment, if there is one.
+fn next_deadline(now: u64, marks: &[Marked]) -> Option<u64>
+    ensures { result ≡ next_deadline now (deadlines marks.now) }
+{
+    let mut next = None;
+    let mut i = marks.len();
+    while i > 0 {
+        i -= 1;
+        next = nearer_at(now, marks, i, next);
+    }
+    next
+}
+
+/// Gives the first of the marks that is due. Returns its deadline and what it is for.
+fn give_first(now: u64, marks: &mut [Marked]) -> Option<(u64, Mark)>
+    ensures given { result ≡ given_of (first_due now marks.old) }
+    ensures left { marks.new ≡ give_first now marks.old }
+    ensures none { result ≡ None → marks.new ≡ marks.old }
+{
+    for i in 0..marks.len() {
+        if marks[i].is_due(now) {
+            let given = (marks[i].deadline(), marks[i].mark());
+            marks[i].give();
+            return Some(given);
+        }
+    }
+    None
+}
+
+/// Settles the first of the marks with this deadline and mark that isn't settled.
+fn settle_first(deadline: u64, mark: Mark, marks: &mut [Marked])
+    ensures { marks.new ≡ settle_first deadline mark marks.old }
+{
+    for i in 0..marks.len() {
+        if marks[i].is_unsettled(deadline, mark) {
+            marks[i].settle();
+            return;
+        }
+    }
+}
+
+impl Clock {
+    /// A clock at the begin of time, with room for so many marks.
+    pub fn new(alloc: Global, most: usize) -> Result<Clock, OutOfMemory>
+        ensures { IfOk result (λ c. (c.clock ≡ (at_rest c.most).clock) × (most ≤ c.most)) }
+    {
+        Ok(Clock {
+            time: 0,
+            marks: Vec::with_capacity(alloc, most)?,
+        })
+    }
+
+    /// Virtual time.
+    pub fn time(&self) -> u64
+        ensures { result ≡ time_of self.now }
+    {
+        self.time
+    }
+
+    /// Arms a deadline so many ticks from now, for this. Returns the deadline.
+    pub fn arm(&mut self, ticks: u32, mark: Mark) -> u64
+        requires room { length self.old.clock.marks < self.old.most }
+        requires few { length self.old.clock.marks < 268435455 }
+        ensures deadline { result ≡ time_of self.old + ticks }
+        ensures left { self.new ≡ with_marks self.old
+            (self.old.clock.marks ++ record { deadline = result; mark = mark; settled = false; given = false } ∷ []) }
+    {
+        let deadline = self.time + ticks as u64;
+        self.marks.push_reserved(Marked::new(deadline, mark));
+        deadline
+    }
+
+    /// Settles the first mark with this deadline that isn't settled.
+    pub fn settle(&mut self, deadline: u64, mark: Mark)
+        ensures left { self.new ≡ with_marks self.old (settle_first deadline mark self.old.clock.marks) }
+        ensures long { length self.new.clock.marks ≡ length self.old.clock.marks }
+    {
+        settle_first(deadline, mark, &mut self.marks);
+    }
+
+    /// Gives the first mark that is due, if there is one. Returns its deadline and what it is for.
+    pub fn give(&mut self) -> Option<(u64, Mark)>
+        ensures given { result ≡ given_of (first_due (time_of self.old) self.old.clock.marks) }
+        ensures left { self.new ≡ with_marks self.old (give_first (time_of self.old) self.old.clock.marks) }
+        ensures long { length self.new.clock.marks ≡ length self.old.clock.marks }
+        ensures none { result ≡ None → self.new ≡ self.old }
+    {
+        give_first(self.time, &mut self.marks)
+    }
+
+    /// The next deadline to which time goes on, if there is one.
+    pub fn later(&self) -> Option<u64>
+        ensures { result ≡ later_of self.now }
+    {
+        next_deadline(self.time, self.marks.as_slice())
+    }
+
+    /// Lets time go on to the next deadline. Returns that, if there is one.
+    pub fn tick(&mut self) -> Option<u64>
+        ensures next { result ≡ later_of self.old }
+        ensures left { MatchOption result (self.new ≡ self.old) (λ next. self.new ≡ with_time self.old next) }
+    {
+        match self.later() {
+            None => None,
+            Some(next) => {
+                self.time = next;
+                Some(next)
+            }
+        }
+    }
+}
