@@ -2,7 +2,7 @@
 use Rattle.um_refinement.proofs.Words.{◌≡◌, ℕ, zero, suc, ◌+◌, ◌<◌, ◌≤◌, Bool, true, false, cond, [], ◌∷◌, length, Option, Some, None, refl, sym, ap, ◌∙◌, subst, arith, eq-eqb, ◌==◌, ◌&&◌, not, if◌then◌else◌, eqb-false, eqb-true, Image, ROWS, row_at, Pending, State, object_at, FineAct, Unseen, Act, ◌||◌, act_in, is_dying, begins_cleaning, check_site, site_of_step, p_next, row_number, Todo, Todos, Processor, fails, SiteState, s_next, same_site, site_after, Exchange, FineStep, Site, AreBlocks, Fine, object, one_if, over_processors, row, total, counted, is_recycle, is_wipe, recyclers, wipers, object_after, object_state}
 use Rattle.um_machine.specs.Objects as Plain
 use Rattle.um_fine.specs.Answers.{is_due_act, is_tick, now_in}
-use Rattle.um_fine.specs.Asks.{by_actor, says_turn}
+use Rattle.um_fine.specs.Asks.{by_actor, idle_site, says_turn}
 use Rattle.um_refinement.proofs.CleanersSteps.{gain}
 use Rattle.um_refinement.proofs.DomainFacts.{two-parts}
 use Rattle.um_refinement.proofs.Erased.{around}
@@ -91,6 +91,14 @@ module _ (f : Fine) (m : State) (e : FineStep) (law : Lawful f m e) (x : ℕ) (f
       by : (b : Bool) → same_site (if b then Site.clock else Site.scheduler) (Site.row x) ≡ false
       by true = refl
       by false = refl
+
+  -- or at any site but those
+  pub takes-apart : (site : Site) → ((act : FineAct) → same_site Site.clock site ≡ false → same_site Site.scheduler site ≡ false → same_site (idle_site f.image p act) site ≡ false)
+  takes-apart site act clock scheduler = by (is_due_act act || is_tick act)
+    where
+      by : (b : Bool) → same_site (if b then Site.clock else Site.scheduler) site ≡ false
+      by true = clock
+      by false = scheduler
 
   pub cell-else : same_site e.site (Site.object x) ≡ false → object later x ≡ object f x
   cell-else off = ap (λ b. object_state (cond b (s_next f.image (f.sites (Site.object x)) e) (f.sites (Site.object x)))) off

@@ -1,6 +1,6 @@
 -- That a look cuts an aborted thread, that a mark in a hand ends a wait or a timer, are those steps of the machine, where the relation holds: who is
 -- found waits there, whoever a look for an abort finds is aborted, and the deadline of a mark in a hand has come.
-use Rattle.um_refinement.proofs.Words.{◌≡◌, ℕ, ◌+◌, ◌-◌, ◌<◌, ◌≤◌, Bool, true, false, [], ◌∷◌, length, Option, Some, None, refl, sym, ap, ◌∙◌, subst, arith, ◌==◌, ◌&&◌, ◌||◌, IsTrue, inl, if◌then◌else◌, nat_le, nat_lt, list_all, slice_index_or, and_from, and_parts, eqb-false, eqb-true, false≢true, true≢false, leb-true, le-leb, ltb-true, ROWS, THREADS, Act, Addr, Row, Context, ThreadIx, Thread, MayChoose, Pending, Steps, to_thread, tends, is_started, State, object_at, thread_at, FineAct, SiteMay, Site, SiteState, site_answers, site_at, Exchange, FineStep, Todo, Todos, CpuMay, Processor, by_me, says, moves, address_of, act_in, woken_in, ObjectCell, Image, Fine, object, word, cell_of, empty_cell, in_order, Rel, unwrap_or}
+use Rattle.um_refinement.proofs.Words.{◌≡◌, ℕ, ◌+◌, ◌-◌, ◌<◌, ◌≤◌, Bool, true, false, ◌∷◌, length, Option, Some, None, refl, sym, ap, ◌∙◌, subst, arith, ◌==◌, ◌&&◌, ◌||◌, IsTrue, inl, if◌then◌else◌, nat_le, nat_lt, list_all, and_from, and_parts, eqb-true, false≢true, leb-true, le-leb, ltb-true, ROWS, THREADS, Act, Row, ThreadIx, MayChoose, Pending, to_thread, tends, is_started, State, object_at, thread_at, FineAct, SiteMay, Site, SiteState, site_answers, site_at, Exchange, FineStep, Todo, Todos, CpuMay, Processor, by_me, moves, address_of, act_in, woken_in, ObjectCell, Fine, object, in_order, Rel}
 use Rattle.um_base.specs.declared.limits.TheConstants.{FUTEX_CELL, JOIN_CELL}
 use Rattle.um_machine.specs.declared.contents.Contents.{Contents}
 use Rattle.um_machine.specs.Services.{runs_out}
@@ -14,13 +14,13 @@ use Rattle.um_fine.specs.Processor.{actor_or}
 use Rattle.um_fine.specs.Seeking.{deadline_of, finds, is_number, looked_for, stands_in}
 use Rattle.um_fine.specs.Sites.{site_numbered}
 use Rattle.um_refinement.specs.Fine.{clock}
-use Rattle.um_refinement.specs.Stops.{LiesAt, Looking, cell_site, is_waiting_site, looks_well, noted_at, notes_in}
+use Rattle.um_refinement.specs.Stops.{Looking, cell_site, is_waiting_site, looks_well, noted_at, notes_in}
 use Rattle.um_refinement.specs.Timing.{is_placed}
 use Rattle.um_refinement.proofs.CellSites.{site-of-cell, waiting_cell}
 use Rattle.um_refinement.proofs.Erased.{Goes, GoesBy}
 use Rattle.um_refinement.proofs.Offered.{runs-first}
 use Rattle.um_refinement.proofs.TimeSteps.{acts-started}
-use Rattle.um_refinement.proofs.WaitersFound.{IsSought, WaitersWait, cell-found, found-stands, looked-found, object-cell, waiter-below, waiter-lies}
+use Rattle.um_refinement.proofs.WaitersFound.{WaitersWait, cell-found, found-stands, looked-found, object-cell, waiter-below, waiter-lies}
 use Rattle.um_refinement.proofs.WorkSteps.{object-sort}
 
 -- the cell of a site in which threads wait
@@ -182,6 +182,11 @@ module _ (f : Fine) (m : State) (rel : Rel f m) (waiting : WaitersWait m) (long 
           ap (λ z. woken_in (act_in z))
               (ap (λ b. looked_for b (by_actor f.image (f.processors k) (Act.Expire (address_of f.image x.0) (T.replies_of (run_out (object f x.0)).2)))) (sym found) ∙ here),
         )
+
+    -- a timer runs in the cell
+    pub runs-there : has_run_out deadline (object f x.0).contents ≡ true
+    unfolding Out
+    runs-there = out-there.0
 
     out-here : (has_run_out deadline (object_at m x.0).contents ≡ true)
         × (T.replies_of (runs_out (object_at m x.0).waiters (in_order (object_at m x.0).waiters)).2 ≡ woken_in (act_in e.act))
