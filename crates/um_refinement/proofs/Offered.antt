@@ -237,7 +237,7 @@ module _ {f : Fine} {m : State} {k : ℕ} {e : FineStep} {q : Pending} {rest : S
   act-listed = sym (ap (λ (s : FineStep). s.act) h.may.makes) ∙ ap (λ (z : Todos). says f.image (f.processors k) z e.act e.moved) h.at
 
   -- what holds of the step on the list where it is made, and of a kill where that is made in its place
-  by-made : (P : Pending → Type 0) → (is_killed e.act ≡ false → P h.listed) → (is_killed e.act ≡ true → IsStopping h.listed → P Pending.Killed) → P q
+  pub by-made : (P : Pending → Type 0) → (is_killed e.act ≡ false → P h.listed) → (is_killed e.act ≡ true → IsStopping h.listed → P Pending.Killed) → P q
   by-made P goes-on kills = subst P h.made (by (is_killed e.act) refl)
     where
       by : (b : Bool) → is_killed e.act ≡ b → P (shown_step f.image h.listed e.act)

@@ -1,9 +1,10 @@
 -- A processor's event of a pending step leaves the own part of its thread as the machine leaves it, where the relation holds: what goes with
 -- the step is what the machine reads and works out.
-use Rattle.um_refinement.proofs.Words.{◌≡◌, ℕ, ◌-◌, ◌<◌, true, false, [], ◌∷◌, length, refl, sym, ap, ◌∙◌, subst, arith, ℤ, slice_index_or, take, ltb-true, true≢false, Act, Found, Ask, Image, ROWS, Addr, Mode, Row, ThreadIx, Amount, Pending, Thread, allowed, bytes_at, string_bytes, Steps, Offers, goes, skips_drops, skips_inherit, is_empty, State, thread_at, FineAct, More, row_named, act_in, bytes_in, outcome_in, moves, shows, Context, as_thread, continues, read, ObjectCell, outcome_of, work_on, Todo, Todos, SiteState, site_moves, Exchange, FineStep, Site, Fine, bytes, object, row, has_steps, own_part, PIECE, string_read, limit_in, amount, caller, me, readable, text_bytes, tends, false≢true}
+use Rattle.um_refinement.proofs.Words.{◌≡◌, ℕ, ◌-◌, ◌<◌, true, false, [], length, refl, sym, ap, ◌∙◌, subst, arith, ℤ, slice_index_or, take, ltb-true, true≢false, Act, Found, Ask, Image, ROWS, Addr, Mode, Row, ThreadIx, Amount, Pending, Thread, allowed, bytes_at, string_bytes, Steps, Offers, goes, skips_drops, skips_inherit, is_empty, State, thread_at, FineAct, More, row_named, act_in, bytes_in, outcome_in, shows, Context, as_thread, continues, read, ObjectCell, outcome_of, work_on, Todo, Todos, SiteState, site_moves, Exchange, FineStep, Site, Fine, bytes, object, row, own_part, PIECE, string_read, limit_in, amount, caller, me, readable, text_bytes, tends, false≢true}
 use Rattle.um_base.specs.declared.names.Access.TheVariants as Access
 use Rattle.um_machine.specs.Table as T
 use Rattle.um_fine.specs.Asks.{moves_show, note_number}
+use Rattle.um_refinement.specs.Frames.{nothing}
 use Rattle.um_refinement.proofs.CallsKnown.{starts-known}
 use Rattle.um_refinement.proofs.Erased.{around}
 use Rattle.um_refinement.proofs.HeldRows.{checked-claimed, claimed-whole}
@@ -63,7 +64,7 @@ module _ {f : Fine} {m : State} {k : ℕ} {e : FineStep} {rest : Steps} {todo : 
       let memory = memory-sort (f.sites Site.memory) (h.rel.sorts Site.memory) in
       let here = subst (λ (s : SiteState). site_moves f.image s act e.moved ≡ e.moved) memory.1 (moves-at h Site.memory act (site-is h) (act-is h)) in
       let limit : limit_in e.moved ≡ readable f.image p a.0 32 = ap limit_in (asked h) in
-      let text = text-bytes f.image p (bytes f) m p.context.thread (λ x. allows-it h tt (behind-is h tt) few Access.Read x 1) (λ x. reads-memory h x 1) 32 a.0 0 n found in
+      let text = text-bytes f.image p (bytes f) m p.context.thread (λ x. allows-it h tt nothing (behind-is h) few Access.Read x 1) (λ x. reads-memory h x 1) 32 a.0 0 n found in
       let all : n - 0 ≡ n = omega arith in
       sym (ap bytes_in here) ∙ (ap (text_bytes f.image (bytes f) a.0) limit ∙ (text.1 ∙ ap (string_bytes m a.0) all))
 
@@ -114,6 +115,7 @@ module _ (f : Fine) (m : State) (e : FineStep) (law : Lawful f m e) (suits : Sui
         let held = ap (λ y. slice_index_or (thread_at m t).checked y false) (sym (named-row f m law.rel a)) ∙ suits.works t a ask rest (shown-offers h) in
         work-carries a ask few h (checked-claimed f m law.rel e.cpu (row_named f.image a) law.by.named few (runs-first law.rel law.by.named (Todo.show h.listed rest) todo h.at (λ hand. hand)) (shown-on h) held)
     carries (Pending.Start who script stack priority mode) h room shown is = starts-another who script stack priority mode h
+    carries (Pending.Cut who) h room shown is = absurd shown
     carries Pending.Resume h room shown is = absurd shown
     carries (Pending.CleanPair who) h room shown is = absurd shown
     carries Pending.Recycle h room shown is = absurd shown
