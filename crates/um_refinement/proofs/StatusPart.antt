@@ -1,10 +1,17 @@
 -- The word of each row says what its object is, after every lawful step.
-use Rattle.um_refinement.proofs.Words.{◌≡◌, ◌⊎◌, inl, inr, ℕ, zero, suc, ◌+◌, ◌<◌, ◌≤◌, Bool, true, false, List, [], ◌∷◌, length, Option, Some, None, refl, sym, ap, ◌∙◌, subst, arith, eq-or-lt_of_le, ◌==◌, ◌&&◌, not, if◌then◌else◌, nat_le, slice_index_or, slice_set, unwrap_or, and_parts, eqb-false, eqb-true, false≢true, leb-true, not-true, true≢false, get_or-set_other, get_or-set_same, length-set, Act, Leftover, SetSaid, Image, ObjectDef, ROWS, STATIC_ROWS, Addr, Kind, ThreadIx, own_row, Object, Status, Pending, Steps, to_thread, MayChoose, State, object_at, thread_at, vacant, FineAct, More, Unseen, RowWord, Stage, gone_stage, has, is_cleaning, is_dying, is_free, is_last, is_live, permitted, row_after, row_takes, address_of, row_named, act_in, leftover_in, set_in, begins_cleaning, by_me, says_show, site_at, row_number, Todo, Todos, kind_of, same_site, FineStep, Site, Fine, one_if, row, is_recycle, is_vacate, is_reserved, recyclers, status_of, vacaters, Given, dynamic_kind, no_slice, not_less, same_kind, after_set, counted_row, StatusIs, ◌||◌}
+use Rattle.um_refinement.proofs.Words.{Event, Told, Waiter, in_order, with_object, woken-by, ◌≡◌, ◌⊎◌, inl, inr, ℕ, zero, suc, ◌+◌, ◌<◌, ◌≤◌, Bool, true, false, List, [], ◌∷◌, length, Option, Some, None, refl, sym, ap, ◌∙◌, subst, arith, eq-or-lt_of_le, ◌==◌, ◌&&◌, not, if◌then◌else◌, nat_le, slice_index_or, slice_set, unwrap_or, and_parts, eqb-false, eqb-true, false≢true, leb-true, not-true, true≢false, get_or-set_other, get_or-set_same, length-set, Act, Leftover, SetSaid, Image, ObjectDef, ROWS, STATIC_ROWS, Addr, Kind, ThreadIx, own_row, Object, Status, Pending, Steps, to_thread, MayChoose, State, object_at, thread_at, vacant, FineAct, More, Unseen, RowWord, Stage, gone_stage, has, is_cleaning, is_dying, is_free, is_last, is_live, permitted, row_after, row_takes, address_of, row_named, act_in, leftover_in, set_in, begins_cleaning, by_me, says_show, site_at, row_number, Todo, Todos, kind_of, same_site, FineStep, Site, Fine, one_if, row, is_recycle, is_vacate, is_reserved, recyclers, status_of, vacaters, Given, dynamic_kind, no_slice, not_less, same_kind, after_set, counted_row, StatusIs, ◌||◌}
+use Rattle.um_machine.specs.declared.contents.Contents.{Contents as Kept}
 use Rattle.um_machine.specs.declared.contents.Contents.TheVariants as Contents
 use Rattle.um_machine.specs.Objects as Plain
+use Rattle.um_machine.specs.Services.{runs_out, without}
+use Rattle.um_machine.specs.State.{waiters_in, with_waiters}
 use Rattle.um_machine.specs.Table as T
+use Rattle.um_machine.specs.Time.{told_late}
+use Rattle.um_words.specs.declared.fine.Mark.{Mark}
+use Rattle.um_fine.specs.Answers.{is_void}
+use Rattle.um_fine.specs.Asks.{or_void}
 use Rattle.um_fine.specs.Processor.{kind_in}
-use Rattle.um_refinement.proofs.CellSteps.{idle-count, recycles-cleared, takes-quiet}
+use Rattle.um_refinement.proofs.CellSteps.{idle-count, recycles-cleared, takes-off, takes-quiet}
 use Rattle.um_refinement.proofs.CleanersPart.{none-vacates, unshown, visit-is}
 use Rattle.um_refinement.proofs.CleanersSteps.{gain, no-gain, rec-sum, row-else, row-here, row-takes-it, vac-sum}
 use Rattle.um_refinement.proofs.CleaningFacts.{cleaning-is, ends-free, left-gone, takes_last, drop-object}
@@ -12,10 +19,10 @@ use Rattle.um_refinement.proofs.ContentsKept.{work-objects}
 use Rattle.um_refinement.proofs.DomainReads.{eqb-swap}
 use Rattle.um_refinement.proofs.DropSteps.{left-here}
 use Rattle.um_refinement.proofs.Erased.{around}
-use Rattle.um_refinement.proofs.Leaves.{Lawful, Leaves, cleans, drops, event, nothing, passes, recycles, resumes}
+use Rattle.um_refinement.proofs.Leaves.{Beside, Lawful, Leaves, acting, beside as beside_it, cleans, cuts, drops, event, expires, leaves as leaves_it, mine, nothing, passes, recycles, resumes, ticks, times_out}
 use Rattle.um_refinement.proofs.ListCounts.{recycles-of, takes-counts, vacates-of}
 use Rattle.um_refinement.proofs.ListGrowth.{ReadsLast}
-use Rattle.um_refinement.proofs.ObjectsKept.{born-reserved, set-kept}
+use Rattle.um_refinement.proofs.ObjectsKept.{born-reserved, set-kept, waiters-kept}
 use Rattle.um_refinement.proofs.Offered.{IsStep, Shows, shown-offers, site-is}
 use Rattle.um_refinement.proofs.Reachable.{sound-held}
 use Rattle.um_refinement.proofs.RowSteps.{named-row, settled, stands}
@@ -143,7 +150,7 @@ module _ (f : Fine) (m : State) (e : FineStep) (law : Lawful f m e) (x : ℕ) (f
   idle s at quiet traits =
       let vacs = idle-count f m e law x few (is_vacate x) (takes-counts (is_vacate x) (vacates-of x) f.image p e at quiet) at in
       let recs = idle-count f m e law x few (is_recycle x) (takes-counts (is_recycle x) (recycles-of x) f.image p e at quiet) at in
-      carry s 0 (omega (arith, vacs), omega (arith, recs)) (ap marks_of (row-else f m e law x few (ap (λ i. same_site i (Site.row x)) (made-at f m e law [] at)))) traits
+      carry s 0 (omega (arith, vacs), omega (arith, recs)) (ap marks_of (row-else f m e law x few (takes-off f m e law x few at))) traits
 
   -- a claim ends
   end-call : (z : ℕ) (todo : Todos) → p.todo ≡ Todo.end_call z ∷ todo → Result m
@@ -205,6 +212,17 @@ module _ (f : Fine) (m : State) (e : FineStep) (law : Lawful f m e) (x : ℕ) (f
   look-at : (q : Todo) (todo : Todos) → p.todo ≡ q ∷ todo → ReadsLast e q todo → is_vacate x q ≡ false → is_recycle x q ≡ false → e.act ≡ FineAct.Unseen Unseen.Visit → Result m
   look-at q todo at last vac rec said = beside m q todo at last vac rec (same-marks (FineAct.Unseen Unseen.Visit) said (λ w. refl)) refl
 
+  -- a search that finds nothing
+  unfound : (u : Unseen) → e.act ≡ FineAct.Unseen u → (q : Todo) (todo : Todos) → p.todo ≡ q ∷ todo → ReadsLast e q todo → is_vacate x q ≡ false → is_recycle x q ≡ false → (found : Event) (more : More)
+      → e.act ≡ or_void f.image p e.act (FineAct.Shown found more) → Result m
+  unfound u said q todo at last vac rec found more h = beside m q todo at last vac rec (same-marks (FineAct.Unseen Unseen.Void) (void (is_void e.act) refl) (λ w. refl)) refl
+    where
+      void : (b : Bool) → is_void e.act ≡ b → e.act ≡ FineAct.Unseen Unseen.Void
+      void true k = h ∙ ap (λ b. if b then FineAct.Unseen Unseen.Void else FineAct.Shown found more) k
+      void false k =
+          absurd (subst (λ act. elim act as (λ _. Type 0) [ FineAct.Unseen v ↦ Unit {0} | FineAct.Shown a b ↦ ⊥ ])
+          (sym said ∙ (h ∙ ap (λ b. if b then FineAct.Unseen Unseen.Void else FineAct.Shown found more) k)) tt)
+
   quiet-part : (u : Unseen) → e.act ≡ FineAct.Unseen u → (todo : Todos) → p.todo ≡ todo → Result m
   quiet-part u said [] at = idle m at (takes-quiet f m e law x few at) refl
   quiet-part u said (Todo.show q rest ∷ todo) at =
@@ -221,6 +239,8 @@ module _ (f : Fine) (m : State) (e : FineStep) (law : Lawful f m e) (x : ℕ) (f
   quiet-part u said (Todo.pass who z ∷ todo) at = look-at (Todo.pass who z) todo at tt refl refl (visit-is f m e law x few u _ said (made-says f m e law (Todo.pass who z ∷ todo) at))
   quiet-part u said (Todo.drop z ∷ todo) at = look-at (Todo.drop z) todo at tt refl refl (visit-is f m e law x few u _ said (made-says f m e law (Todo.drop z ∷ todo) at))
   quiet-part u said (Todo.clean_pair who z ∷ todo) at = look-at (Todo.clean_pair who z) todo at tt refl refl (visit-is f m e law x few u _ said (made-says f m e law (Todo.clean_pair who z ∷ todo) at))
+  quiet-part u said (Todo.look who site before ∷ todo) at = unfound u said (Todo.look who site before) todo at tt refl refl _ _ (made-says f m e law (Todo.look who site before ∷ todo) at)
+  quiet-part u said (Todo.handle deadline mark ∷ todo) at = unfound u said (Todo.handle deadline mark) todo at tt refl refl _ _ (made-says f m e law (Todo.handle deadline mark ∷ todo) at)
   quiet-part u said (q ∷ todo) at = beside m q todo at tt refl refl (ap marks_of (row-else f m e law x few (ap (λ i. same_site i (Site.row x)) (made-at f m e law (q ∷ todo) at)))) refl
 
   -- A permission is dropped.
@@ -282,18 +302,18 @@ module _ (f : Fine) (m : State) (e : FineStep) (law : Lawful f m e) (x : ℕ) (f
     After = T.after m p.context.thread n q rest
 
     rises : Rises (gain f m e law x few (begins_cleaning e) (row_number e.site))
-    rises = counts (Todo.show q rest) todo h.at (last-shown q rest todo h.at) refl refl
+    rises = counts (Todo.show h.listed rest) todo h.at (last-shown h.listed rest todo h.at) refl refl
 
     -- one that leaves the marks of all rows
     leaves : is_marking q ≡ false → traits_of (object_at After x) ≡ traits_of (object_at m x) → Result After
     leaves free traits =
-        beside After (Todo.show q rest) todo h.at (last-shown q rest todo h.at) refl refl
+        beside After (Todo.show h.listed rest) todo h.at (last-shown h.listed rest todo h.at) refl refl
         (same-marks _ is.said (λ w. marks-untouched f.image p w p.context.thread q (act_in e.act) free)) traits
 
     -- one at another row
     apart : (y : ℕ) → e.site ≡ Site.row y → (y == x) ≡ false → traits_of (object_at After x) ≡ traits_of (object_at m x) → Result After
     apart y site k traits =
-        beside After (Todo.show q rest) todo h.at (last-shown q rest todo h.at) refl refl (ap marks_of (row-else f m e law x few (ap (λ i. same_site i (Site.row x)) site ∙ k))) traits
+        beside After (Todo.show h.listed rest) todo h.at (last-shown h.listed rest todo h.at) refl refl (ap marks_of (row-else f m e law x few (ap (λ i. same_site i (Site.row x)) site ∙ k))) traits
 
   -- an object of another row is written
   other-row : (y : ℕ) (o : Object) → (y == x) ≡ false → traits_of (slice_index_or (slice_set m.objects y o) x vacant) ≡ traits_of (object_at m x)
@@ -371,7 +391,7 @@ module _ (f : Fine) (m : State) (e : FineStep) (law : Lawful f m e) (x : ℕ) (f
 
           by-live : (b : Bool) → is_live (row f x).stage ≡ b → Result (T.after m p.context.thread n (Pending.Publish a) rest)
           by-live false z =
-              beside (T.after m p.context.thread n (Pending.Publish a) rest) (Todo.show (Pending.Publish a) rest) todo h.at (last-shown (Pending.Publish a) rest todo h.at) refl refl (ap marks_of (word-by false z))
+              beside (T.after m p.context.thread n (Pending.Publish a) rest) (Todo.show h.listed rest) todo h.at (last-shown h.listed rest todo h.at) refl refl (ap marks_of (word-by false z))
               (ap (λ b. traits_of (object_at (After-by b) x)) (gone ∙ ap not z))
           by-live true z =
               marked (Pending.Publish a) rest todo n h is free (record (row f x) { public = true }) (record (object_at m x) { public = true }) (word-by true z)
@@ -405,7 +425,7 @@ module _ (f : Fine) (m : State) (e : FineStep) (law : Lawful f m e) (x : ℕ) (f
           same : (said : SetSaid) → T.set_said (object_at m y) strict ≡ said → marks_of (after_set (row f x) said) ≡ marks_of (row f x) → traits_of (object_at (After-by said) x) ≡ traits_of (object_at m x)
               → Result (T.after m p.context.thread n q rest)
           same said z marks traits =
-              beside (T.after m p.context.thread n q rest) (Todo.show q rest) todo h.at (last-shown q rest todo h.at) refl refl (ap marks_of (word-by said z) ∙ marks)
+              beside (T.after m p.context.thread n q rest) (Todo.show h.listed rest) todo h.at (last-shown h.listed rest todo h.at) refl refl (ap marks_of (word-by said z) ∙ marks)
               (ap (λ v. traits_of (object_at (After-by v) x)) z ∙ traits)
 
           by-said : (said : SetSaid) → T.set_said (object_at m y) strict ≡ said → Result (T.after m p.context.thread n q rest)
@@ -529,7 +549,7 @@ module _ (f : Fine) (m : State) (e : FineStep) (law : Lawful f m e) (x : ℕ) (f
       let same = named-row f m law.rel a in
       let d = drop-object m who.0 z x in
       drop-case (T.after m p.context.thread n (Pending.DropPair who a) rest) who a (leftover_in (act_in e.act)) (row_named f.image a) p.context.thread More.Nothing
-      (Todo.show (Pending.DropPair who a) rest) todo h.at (last-shown (Pending.DropPair who a) rest todo h.at) refl refl (site-is h) is.said
+      (Todo.show h.listed rest) todo h.at (last-shown h.listed rest todo h.at) refl refl (site-is h) is.said
       (λ ne. ap traits_of (d.1 (λ k. ne (k ∙ same))))
       (λ k quiet. ap traits_of (d.0 (ap (λ y. takes_last (T.dropped m who.0 y)) (same ∙ k) ∙ quiet)))
       (λ k loud.
@@ -555,6 +575,9 @@ module _ (f : Fine) (m : State) (e : FineStep) (law : Lawful f m e) (x : ℕ) (f
   by-event (Pending.Drops from) rest todo n h shown is = absurd shown
   by-event (Pending.CleanPair who) rest todo n h shown is = absurd shown
   by-event Pending.Recycle rest todo n h shown is = absurd shown
+  by-event (Pending.TimeOut who) rest todo n h shown is = absurd shown
+  by-event Pending.Expire rest todo n h shown is = absurd shown
+  by-event (Pending.Cut who) rest todo n h shown is = absurd shown
   by-event q rest todo n h shown is = leaves q rest todo n h is refl (traits-kept m x p.context.thread n q rest tt)
 
   -- the object is recycled, once its row was vacated
@@ -589,6 +612,28 @@ module _ (f : Fine) (m : State) (e : FineStep) (law : Lawful f m e) (x : ℕ) (f
             kind = λ z. absurd (z (ap (λ (w : Object). w.status) object));
           }
 
+  -- A step beside the instructions leaves the marks of all rows, and what they say of their objects.
+  abbrev Same : State → Type 0
+  Same s = traits_of (object_at s x) ≡ traits_of (object_at m x)
+
+  abbrev out : ℕ → Kept × List Waiter × List (ThreadIx × Told)
+  out y = runs_out (object_at m y).waiters (in_order (object_at m y).waiters)
+
+  on-beside : (t y : ℕ) (q : Pending) → Beside f m e t y q → Result (T.after m t y q (thread_at m t).pending)
+  on-beside _ _ _ (cuts who site rank y todo at place inside said) =
+      beside _ (Todo.look who site rank) todo at tt refl refl (same-marks _ said (λ w. refl)) (waiters-kept traits_of (λ o ws. refl) m y x _)
+  on-beside _ _ _ (times_out deadline site y who todo at place inside said) =
+      beside _ (Todo.handle deadline (Mark.Thread who site)) todo at tt refl refl (same-marks _ said (λ w. refl))
+      (woken-by Same (λ z u told k. k) (told_late who y) (with_waiters m y (without who.0 (waiters_in m y))) (waiters-kept traits_of (λ o ws. refl) m y x _))
+  on-beside _ _ _ (expires deadline y todo at inside said) =
+      beside _ (Todo.handle deadline (Mark.Timer y)) todo at tt refl refl (same-marks _ said (λ w. refl))
+      (woken-by Same (λ z u told k. k) (out y.0).2 (with_object m y.0 (record (object_at m y.0) { contents = (out y.0).0; waiters = (out y.0).1 }))
+      (set-kept traits_of m.objects y.0 x (record (object_at m y.0) { contents = (out y.0).0; waiters = (out y.0).1 }) refl))
+  on-beside _ _ _ (ticks at said) =
+      idle _ at (ap (λ a. begins_cleaning (record e { act = a })) said) (traits-kept m x (acting f m e) 0 Pending.Tick (thread_at m (acting f m e)).pending tt)
+  on-beside _ _ _ (leaves_it todo at said) =
+      beside _ Todo.leave todo at tt refl refl (same-marks _ said (λ w. refl)) (traits-kept m x (mine f m e) 0 Pending.Left (thread_at m (mine f m e)).pending tt)
+
   pub status-part : (s : State) → Leaves f m e s → StatusIs later s x
   status-part _ (nothing u said) = quiet-part u said p.todo refl
   status-part _ (event q rest todo n h shown is) = by-event q rest todo n h shown is
@@ -617,3 +662,4 @@ module _ (f : Fine) (m : State) (e : FineStep) (law : Lawful f m e) (x : ℕ) (f
       ∙ (ap traits_of (d.2 (subst (λ i. y < i) (sym (length-set m.objects z o)) (in-objects h.few)) (ap (λ i. takes_last (T.dropped m who i)) k ∙ loud))
       ∙ ((λ i. record (first y i) { status = Status.Gone }) ∙ ap (λ i. record (traits_of (object_at m i)) { status = Status.Gone }) k)))
   status-part _ (recycles y rest todo at l said chosen) = recycle-case y rest todo at said
+  status-part _ (beside_it t y q how chosen started) = on-beside t y q how
