@@ -64,7 +64,7 @@ not-held true h = absurd (false≢true h)
 not-held false h = refl
 
 -- a queue is no timer
-no-timer : (now : ℕ) (c : Contents) → IsQueue c → has_run_out now c ≡ true → ⊥
+pub no-timer : (now : ℕ) (c : Contents) → IsQueue c → has_run_out now c ≡ true → ⊥
 no-timer now (Contents.Running d) queue runs = false≢true queue
 no-timer now c queue runs = false≢true runs
 
