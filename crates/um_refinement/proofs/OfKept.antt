@@ -1,5 +1,5 @@
 -- The own part of a thread that makes an event is that of the machine's thread then, with what its call holds and whether it has ended.
-use Rattle.um_refinement.proofs.Words.{as_thread, ◌≡◌, ℕ, zero, suc, ◌<◌, Bool, true, List, [], ◌∷◌, ◌++◌, length, Option, Some, None, refl, sym, ap, ◌∙◌, subst, arith, IsTrue, nat_lt, slice_set, list_all, and_from, and_parts, Answer, Ask, ROWS, THREADS, Addr, Errno, Pending, Life, Thread, verdict, Steps, State, is_started, no_rows, thread_at, with_thread, row_named, act_in, verdict_in, Context, continues, Todos, FineStep, Fine, IsOf, flags_of, is_ended, own_part, Ignores, held, next_of, key-same, held_part, all_other, keys-after, work_change, changed-same}
+use Rattle.um_refinement.proofs.Words.{as_thread, ◌≡◌, ℕ, zero, suc, ◌<◌, Bool, true, List, [], ◌∷◌, ◌++◌, length, Option, Some, None, refl, sym, ap, ◌∙◌, subst, arith, IsTrue, nat_lt, slice_set, list_all, and_from, and_parts, Ask, ROWS, THREADS, Addr, Errno, Pending, Life, Thread, verdict, Steps, State, is_started, thread_at, with_thread, row_named, act_in, verdict_in, Context, continues, Todos, FineStep, Fine, IsOf, flags_of, is_ended, own_part, Ignores, held, next_of, key-same, held_part, all_other, keys-after, work_change, changed-same}
 use Rattle.um_machine.specs.Table as T
 use Rattle.um_fine.specs.Answers.{answer_in}
 use Rattle.um_refinement.specs.Threads.{as_cut, cutters}
