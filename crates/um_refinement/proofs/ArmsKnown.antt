@@ -42,7 +42,7 @@ Fits until left (Next.fatal reason) = Unit {0}
 Fits until left Next.stays = Unit {0}
 Fits until left next = Unarmed until left
 
-pub until-same : (change : Change) (me : Thread) → sets_until change ≡ false → (G.changed change me).until ≡ me.until
+until-same : (change : Change) (me : Thread) → sets_until change ≡ false → (G.changed change me).until ≡ me.until
 until-same Change.nothing me off = refl
 until-same (Change.until deadline) me off = absurd (true≢false off)
 until-same change me off = refl

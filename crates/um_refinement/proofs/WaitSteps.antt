@@ -157,7 +157,7 @@ all-lack u (w ∷ ws) all h = by (w.thread.0 == u) all h (all-lack u ws)
     by true all h more = false≢true all
     by false all h more = more all h
 
-row-place : (c r : ℕ) → place_of c ≡ suc (suc r) → c ≡ r
+pub row-place : (c r : ℕ) → place_of c ≡ suc (suc r) → c ≡ r
 row-place c r h = by (c == JOIN_CELL) (c == FUTEX_CELL) h
   where
     by : (a b : Bool) → (if a then 0 else if b then 1 else suc (suc c)) ≡ suc (suc r) → c ≡ r
@@ -165,7 +165,7 @@ row-place c r h = by (c == JOIN_CELL) (c == FUTEX_CELL) h
     by false true h = absurd (let bad : 1 ≡ suc (suc r) = h in cc)
     by false false h = omega (arith, h)
 
-join-place : (c : ℕ) → place_of c ≡ place_of JOIN_CELL → c ≡ JOIN_CELL
+pub join-place : (c : ℕ) → place_of c ≡ place_of JOIN_CELL → c ≡ JOIN_CELL
 join-place c h = by (c == JOIN_CELL) refl (c == FUTEX_CELL) h
   where
     by : (a : Bool) → (c == JOIN_CELL) ≡ a → (b : Bool) → (if a then 0 else if b then 1 else suc (suc c)) ≡ 0 → c ≡ JOIN_CELL
@@ -173,7 +173,7 @@ join-place c h = by (c == JOIN_CELL) refl (c == FUTEX_CELL) h
     by false e true h = absurd (let bad : 1 ≡ 0 = h in cc)
     by false e false h = absurd (let bad : suc (suc c) ≡ 0 = h in cc)
 
-futex-place : (c : ℕ) → place_of c ≡ place_of FUTEX_CELL → c ≡ FUTEX_CELL
+pub futex-place : (c : ℕ) → place_of c ≡ place_of FUTEX_CELL → c ≡ FUTEX_CELL
 futex-place c h = by (c == JOIN_CELL) (c == FUTEX_CELL) refl h
   where
     by : (a b : Bool) → (c == FUTEX_CELL) ≡ b → (if a then 0 else if b then 1 else suc (suc c)) ≡ 1 → c ≡ FUTEX_CELL

@@ -1,7 +1,7 @@
--- In every state that a run of a described image reaches, the deadline with which a thread waits in a cell is that of its call: a step leaves it of
--- each thread that waits then.
-use Rattle.um_refinement.proofs.Words.{◌≡◌, ◌≢◌, ◌⊎◌, IsTrue, Effect, is_spared, inl, inr, ℕ, Bool, true, false, List, [], ◌∷◌, Option, Some, None, refl, sym, ap, ◌∙◌, subst, ◌==◌, ◌||◌, is_some, not, if◌then◌else◌, list_all, and_from, and_parts, eq-eqb, eqb-false, eqb-true, false≢true, true≢false, not-true, Answer, Event, Image, More, FineAct, ThreadIx, Waiter, Pending, Thread, Steps, Next, State, nobody, thread_at, with_thread, MayChoose, Offers, Runs, begins, exits, goes, opening, skips_drops, skips_inherit, tends, at_set, core_of, IsKnown, IsDescribed, Ignores, all_other, effects_of, next_of, gone, key-same, keys-after, keys-wrote, set-keys, wrote, work_change}
-use Rattle.um_invariants.proofs.Reached.{at_set_apart}
+-- In every state that a run of a described image reaches, the deadline with which a thread waits in a cell is that of its call, and one that waits on
+-- an object holds it: a step leaves the deadline and the claims of each thread that waits then.
+use Rattle.um_refinement.proofs.Words.{◌≡◌, ◌≢◌, ◌⊎◌, ◌<◌, nat_lt, lt-ltb, slice_index_or, ROWS, Addr, Ask, IsTrue, Effect, is_spared, inl, inr, ℕ, Bool, true, false, List, [], ◌∷◌, Option, Some, None, refl, sym, ap, ◌∙◌, subst, ◌==◌, ◌||◌, is_some, not, if◌then◌else◌, list_all, and_from, and_parts, eq-eqb, eqb-false, eqb-true, false≢true, true≢false, not-true, Answer, Event, Image, More, FineAct, ThreadIx, Waiter, Pending, Thread, Steps, Next, State, nobody, thread_at, with_thread, MayChoose, Offers, Runs, begins, exits, goes, opening, skips_drops, skips_inherit, tends, at_set, core_of, IsKnown, IsDescribed, Ignores, all_other, effects_of, next_of, gone, key-same, keys-after, keys-wrote, set-keys, wrote, work_change}
+use Rattle.um_base.specs.declared.limits.TheConstants.{FUTEX_CELL, JOIN_CELL}
 use Rattle.um_invariants.proofs.ThreadCells.{cell, cell-is, place_of}
 use Rattle.um_invariants.proofs.ThreadWords.{is_beside}
 use Rattle.um_machine.specs.Goes.{changed, went}
@@ -12,13 +12,12 @@ use Rattle.um_machine.specs.State.{is_to_resume, is_waiting, waiters_in}
 use Rattle.um_machine.specs.Table as T
 use Rattle.um_machine.specs.Writes.{cut}
 use Rattle.um_fine.specs.Seeking.{deadline_of, stands_in}
-use Rattle.um_refinement.proofs.ArmsKnown.{keeps-work, sets_until, until-same}
 use Rattle.um_refinement.proofs.Erased.{IsReachable, reach-on}
 use Rattle.um_refinement.proofs.FirstThreads.{new-thread}
-use Rattle.um_refinement.proofs.SuitsKnown.{waits-known}
+use Rattle.um_refinement.proofs.SuitsKnown.{waits-known, works-known}
 use Rattle.um_refinement.proofs.WaitersFound.{WaitersWait}
 use Rattle.um_refinement.proofs.WaitersLeft.{All}
-use Rattle.um_refinement.proofs.WaitSteps.{Begins, MayBegin, cells-after, stood, waiter_of}
+use Rattle.um_refinement.proofs.WaitSteps.{Begins, MayBegin, cells-after, futex-place, join-place, row-place, stood}
 
 -- The deadlines of waiters.
 
@@ -74,10 +73,34 @@ nobody-stands : (P : Waiter → Bool) (ws : List Waiter) → ((u : ℕ) → stan
 nobody-stands P [] h = refl
 nobody-stands P (w ∷ ws) h = absurd (h w.thread.0 (ap (λ b. b || stands_in w.thread.0 ws) (eq-eqb w.thread.0 w.thread.0 refl)))
 
-abbrev until_of : Thread → Option ℕ
-until_of me = me.until
+-- who waits on an object holds it
+abbrev holds : State → ℕ → Waiter → Bool
+holds m c v = not (nat_lt c ROWS) || slice_index_or (thread_at m v.thread.0).checked c false
 
-ignores : Ignores until_of all_other
+abbrev AllHold : State → Type 0
+AllHold m = (c : ℕ) → All (holds m c) (waiters_in m c)
+
+abbrev pub WaitersHold : State → Type 0
+WaitersHold m = (c t : ℕ) → c < ROWS → stands_in t (waiters_in m c) ≡ true → slice_index_or (thread_at m t).checked c false ≡ true
+
+hold-so : (m : State) (c t : ℕ) (ws : List Waiter) → c < ROWS → All (holds m c) ws → stands_in t ws ≡ true → slice_index_or (thread_at m t).checked c false ≡ true
+hold-so m c t [] few all h = absurd (false≢true h)
+hold-so m c t (w ∷ ws) few all h = by (w.thread.0 == t) refl h (hold-so m c t ws few parts.1)
+  where
+    parts : (holds m c w ≡ true) × All (holds m c) ws
+    parts = and_parts (holds m c w) (list_all (holds m c) ws) all
+
+    by : (b : Bool) → (w.thread.0 == t) ≡ b → (b || stands_in t ws) ≡ true → (stands_in t ws ≡ true → slice_index_or (thread_at m t).checked c false ≡ true) → slice_index_or (thread_at m t).checked c false ≡ true
+    by true e h more =
+        subst (λ n. slice_index_or (thread_at m n).checked c false ≡ true) (eqb-true w.thread.0 t e)
+        (sym (ap (λ b. not b || slice_index_or (thread_at m w.thread.0).checked c false) (lt-ltb c ROWS few)) ∙ parts.0)
+    by false e h more = more h
+
+-- what of a thread is left while it waits
+abbrev key_of : Thread → Option ℕ × List Bool
+key_of me = (me.until, me.checked)
+
+ignores : Ignores key_of all_other
 ignores = record { due = λ h me due. refl; told = λ h me told. refl; domain = λ h me domain. refl; doomed = λ h me. refl; flagged = λ h me aborted suspended. refl }
 
 -- A step leaves the deadline of each thread that waits then.
@@ -109,19 +132,19 @@ module _ (s : State) (t x : ℕ) (waits : WaitersWait s) where
           beside p is = is
 
   abbrev Kept : ℕ → Thread → Type 0
-  Kept u me = (me.until ≡ (thread_at s u).until) ⊎ (is_to_resume me.pending ≡ false)
+  Kept u me = (key_of me ≡ key_of (thread_at s u)) ⊎ (is_to_resume me.pending ≡ false)
 
   module _ (q : Pending) (rest : Steps) where
     abbrev next : State
     next = T.after s t x q rest
 
-    all-same : list_all (λ (w : Bool × Effect). is_spared all_other w.1) (effects_of s t x q) ≡ true → ((u : State) (me : Thread) → (gone rest u t (next_of s t x q) me).until ≡ me.until)
-        → (u : ℕ) → (thread_at next u).until ≡ (thread_at s u).until
-    all-same spared same u = key-same until_of s next (keys-after until_of all_other ignores s t x q rest spared same) u
+    all-same : list_all (λ (w : Bool × Effect). is_spared all_other w.1) (effects_of s t x q) ≡ true → ((u : State) (me : Thread) → key_of (gone rest u t (next_of s t x q) me) ≡ key_of me)
+        → (u : ℕ) → key_of (thread_at next u) ≡ key_of (thread_at s u)
+    all-same spared same u = key-same key_of s next (keys-after key_of all_other ignores s t x q rest spared same) u
 
     -- another thread
     wrote-same : list_all (λ (w : Bool × Effect). is_spared all_other w.1) (effects_of s t x q) ≡ true → (u : ℕ) → Kept u (thread_at (wrote (effects_of s t x q) s) u)
-    wrote-same spared u = inl (key-same until_of s (wrote (effects_of s t x q) s) (keys-wrote until_of all_other ignores (effects_of s t x q) s spared) u)
+    wrote-same spared u = inl (key-same key_of s (wrote (effects_of s t x q) s) (keys-wrote key_of all_other ignores (effects_of s t x q) s spared) u)
 
     went-other : (w : State) (next : Next) (u : ℕ) → u ≢ t → Kept u (thread_at w u) → Kept u (thread_at (went rest w t next) u)
     went-other w Next.stays u other h = h
@@ -136,18 +159,19 @@ module _ (s : State) (t x : ℕ) (waits : WaitersWait s) where
   others-wrote (Pending.Cut who) own u = absurd (true≢false own)
   others-wrote q own u = wrote-same q [] refl u
 
-  works-same : (answer : Answer) (came : List ℕ) (me : Thread) → (changed (work_change answer came) me).until ≡ me.until
-  works-same answer came me = until-same (work_change answer came) me (keeps-work answer came)
+  works-same : (answer : Answer) (came : List ℕ) (me : Thread) → key_of (changed (work_change answer came) me) ≡ key_of me
+  works-same Answer.Wait came me = refl
+  works-same (Answer.Now reply) came me = refl
 
   -- the thread itself, where it begins to wait
-  begun : (q : Pending) (rest : Steps) (c : ℕ) → Begins s t x q c → (u : ℕ) → (thread_at (T.after s t x q rest) u).until ≡ (thread_at s u).until
+  begun : (q : Pending) (rest : Steps) (c : ℕ) → Begins s t x q c → (u : ℕ) → key_of (thread_at (T.after s t x q rest) u) ≡ key_of (thread_at s u)
   begun (Pending.Work a ask) rest c h u = all-same (Pending.Work a ask) rest refl (λ u me. works-same _ _ me) u
   begun (Pending.Join who timeout) rest c h u = all-same (Pending.Join who timeout) rest refl (λ u me. works-same _ _ me) u
   begun (Pending.FutexWait a value timeout) rest c h u = all-same (Pending.FutexWait a value timeout) rest refl (λ u me. works-same _ _ me) u
   begun q rest c h u = absurd h
 
   -- a step beside those of an instruction
-  beside-same : (q : Pending) (rest : Steps) → is_beside q ≡ true → (u : ℕ) → (thread_at (T.after s t x q rest) u).until ≡ (thread_at s u).until
+  beside-same : (q : Pending) (rest : Steps) → is_beside q ≡ true → (u : ℕ) → key_of (thread_at (T.after s t x q rest) u) ≡ key_of (thread_at s u)
   beside-same (Pending.CleanPair who) rest h u = all-same (Pending.CleanPair who) rest refl (λ u me. refl) u
   beside-same Pending.Recycle rest h u = all-same Pending.Recycle rest refl (λ u me. refl) u
   beside-same Pending.Left rest h u = all-same Pending.Left rest refl (λ u me. refl) u
@@ -155,15 +179,15 @@ module _ (s : State) (t x : ℕ) (waits : WaitersWait s) where
   beside-same (Pending.TimeOut who) rest h u = all-same (Pending.TimeOut who) rest refl (λ u me. refl) u
   beside-same Pending.Expire rest h u = all-same Pending.Expire rest refl (λ u me. refl) u
   beside-same (Pending.Cut who) rest h u =
-      at_set (λ n (z : Thread). z.until ≡ (thread_at s n).until) s.threads who.0 u (cut (thread_at s who.0)) nobody refl refl
+      at_set (λ n (z : Thread). key_of z ≡ key_of (thread_at s n)) s.threads who.0 u (cut (thread_at s who.0)) nobody refl refl
   beside-same q rest h u = absurd (false≢true h)
 
   module _ (q : Pending) (rest : Steps) (offers : Offers s t q rest) (chosen : MayChoose s t x q) (later : WaitersWait (T.after s t x q rest)) where
-    pub until-left : (c u : ℕ) → stands_in u (waiters_in (T.after s t x q rest) c) ≡ true → (thread_at (T.after s t x q rest) u).until ≡ (thread_at s u).until
-    until-left c u stands = by (is_beside q) refl (u == t) refl
+    pub key-left : (c u : ℕ) → stands_in u (waiters_in (T.after s t x q rest) c) ≡ true → key_of (thread_at (T.after s t x q rest) u) ≡ key_of (thread_at s u)
+    key-left c u stands = by (is_beside q) refl (u == t) refl
       where
         Goal : Type 0
-        Goal = (thread_at (T.after s t x q rest) u).until ≡ (thread_at s u).until
+        Goal = key_of (thread_at (T.after s t x q rest) u) ≡ key_of (thread_at s u)
 
         kept : Kept u (thread_at (T.after s t x q rest) u) → Goal
         kept (inl same) = same
@@ -194,26 +218,68 @@ module _ (s : State) (t x : ℕ) (waits : WaitersWait s) where
     fit-after all c =
         let now = cells-after (fits s) s (place_of c) (subst (All (fits s)) (cell-is s c) (all c)) t x q rest (new-fits (place_of c)) in
         let there = subst (All (fits s)) (sym (cell-is (T.after s t x q rest) c)) now in
-        among (fits s) (fits (T.after s t x q rest)) (waiters_in (T.after s t x q rest) c) (λ v stands is. subst (λ (o : Option ℕ). same_until v.until o ≡ true) (sym (until-left c v.thread.0 stands)) is) there
+        among (fits s) (fits (T.after s t x q rest)) (waiters_in (T.after s t x q rest) c) (λ v stands is. subst (λ (o : Option ℕ). same_until v.until o ≡ true) (λ i. (sym (key-left c v.thread.0 stands) i).0) is) there
+
+    -- who begins to wait on an object holds it
+    module _ (works : (a : Addr) (ask : Ask) → q ≡ Pending.Work a ask → slice_index_or (thread_at s t).checked (T.row_of s a) false ≡ true) where
+      new-holds : (c : ℕ) → MayBegin s t x (holds s c) (place_of c) q
+      new-holds c = which q refl
+        where
+          outside : (cell : ℕ) → c ≡ cell → nat_lt cell ROWS ≡ false → (held : Bool) → (not (nat_lt c ROWS) || held) ≡ true
+          outside cell same past held = ap (λ b. not b || held) (ap (λ n. nat_lt n ROWS) same ∙ past)
+
+          inside : (b : Bool) → b ≡ true → (a : Bool) → (not a || b) ≡ true
+          inside b h true = h
+          inside b h false = refl
+
+          which : (p : Pending) → q ≡ p → MayBegin s t x (holds s c) (place_of c) p
+          which (Pending.Work a ask) k = λ here wait. inside _ (subst (λ n. slice_index_or (thread_at s t).checked n false ≡ true) (sym (row-place c (T.row_of s a) here)) (works a ask k)) (nat_lt c ROWS)
+          which (Pending.Join who timeout) k = λ here wait. outside JOIN_CELL (join-place c here) refl _
+          which (Pending.FutexWait a value timeout) k = λ here wait. outside FUTEX_CELL (futex-place c here) refl _
+          which p k = tt
+
+      hold-after : AllHold s → AllHold (T.after s t x q rest)
+      hold-after all c =
+          let now = cells-after (holds s c) s (place_of c) (subst (All (holds s c)) (cell-is s c) (all c)) t x q rest (new-holds c) in
+          let there = subst (All (holds s c)) (sym (cell-is (T.after s t x q rest) c)) now in
+          among (holds s c) (holds (T.after s t x q rest) c) (waiters_in (T.after s t x q rest) c)
+          (λ v stands is. subst (λ (held : List Bool). (not (nat_lt c ROWS) || slice_index_or held c false) ≡ true) (λ i. (sym (key-left c v.thread.0 stands) i).1) is) there
 
 module _ (image : Image) (cpus : ℕ) (described : IsDescribed image) (known : IsKnown (core_of (opening image))) where
-  fit-run : (s : State) (events : List Event) (last : State) → IsReachable image cpus s → AllFit s → Runs s events last → AllFit last
-  fit-run s [] last reach all run = subst AllFit (sym run) all
-  fit-run s (event ∷ events) last reach all (mid, step, rest) =
+  abbrev AllSo : State → Type 0
+  AllSo s = AllFit s × AllHold s
+
+  so-run : (s : State) (events : List Event) (last : State) → IsReachable image cpus s → AllSo s → Runs s events last → AllSo last
+  so-run s [] last reach all run = subst AllSo (sym run) all
+  so-run s (event ∷ events) last reach all (mid, step, rest) =
       let onwards = reach-on image cpus s mid (FineAct.Shown event More.Nothing) reach step in
+      let t = event.thread.0 in
       let waits = waits-known image cpus described known s reach in
       let later = subst WaitersWait step.leaves (waits-known image cpus described known mid onwards) in
-      let after = fit-after s event.thread.0 step.row waits step.step step.rest step.offered step.chosen later all in
-      fit-run mid events last onwards (subst AllFit (sym step.leaves) after) rest
+      let fit = fit-after s t step.row waits step.step step.rest step.offered step.chosen later all.0 in
+      let works : (a : Addr) (ask : Ask) → step.step ≡ Pending.Work a ask → slice_index_or (thread_at s t).checked (T.row_of s a) false ≡ true =
+      λ a ask same. works-known image cpus described known s reach t a ask step.rest (subst (λ q. Offers s t q step.rest) same step.offered) in
+      let hold = hold-after s t step.row waits step.step step.rest step.offered step.chosen later works all.1 in
+      so-run mid events last onwards (subst AllSo (sym step.leaves) (fit, hold)) rest
 
   -- at the opening nobody waits
-  opening-fits : AllFit (opening image)
-  opening-fits c =
-      nobody-stands (fits (opening image)) (waiters_in (opening image) c)
-      (λ u stands.
+  none-stands : (c u : ℕ) → stands_in u (waiters_in (opening image) c) ≡ true → ⊥
+  none-stands c u stands =
       let th = thread_at (opening image) u in
       let waits = (and_parts (is_to_resume th.pending) (not (is_some th.told)) (waits-known image cpus described known (opening image) ([], refl) c u stands)).0 in
-      false≢true (sym (ap is_to_resume (new-thread image u).rests) ∙ waits))
+      false≢true (sym (ap is_to_resume (new-thread image u).rests) ∙ waits)
+
+  opening-so : AllSo (opening image)
+  opening-so = (
+    λ c. nobody-stands (fits (opening image)) (waiters_in (opening image) c) (none-stands c),
+    λ c. nobody-stands (holds (opening image) c) (waiters_in (opening image) c) (none-stands c),
+  )
+
+  all-known : (m : State) → IsReachable image cpus m → AllSo m
+  all-known m reach = so-run (opening image) reach.0 m ([], refl) opening-so reach.1
 
   pub untils-known : (m : State) → IsReachable image cpus m → UntilsAre m
-  untils-known m reach c t = fit-until m t (waiters_in m c) (fit-run (opening image) reach.0 m ([], refl) opening-fits reach.1 c)
+  untils-known m reach c t = fit-until m t (waiters_in m c) ((all-known m reach).0 c)
+
+  pub holds-known : (m : State) → IsReachable image cpus m → WaitersHold m
+  holds-known m reach c t few = hold-so m c t (waiters_in m c) few ((all-known m reach).1 c)
