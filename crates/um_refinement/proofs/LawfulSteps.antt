@@ -1,8 +1,11 @@
 -- Each lawful step is one of the machine, or leaves it: given a few facts of the machine's state, what it makes of that state
 -- is one of the kinds of `Leaves`.
-use Rattle.um_refinement.proofs.Words.{Act, Addr, Amount, Ask, Bool, Cell, Exchange, Fine, FineAct, FineStep, Fits, Guarded, Image, IsStatic, IsTrue, List, MayChoose, None, Offers, Pending, ROWS, Site, SiteState, Some, State, Steps, THREADS, ThreadIs, ThreadIx, Todo, Todos, Unseen, [], act_in, address_of, and_from, and_parts, ap, behind_birth, by_me, bytes, call_is, eq-eqb, false, false≢true, goes, if◌then◌else◌, inl, inr, is_visit, is_word_read, leftover_in, length, list_all, list_any, ltb-true, names_row, nat_lt, not, own_row, refl, row_named, says_idle, says_show, shows, site_takes, skips_drops, skips_inherit, slice_index_or, subst, sym, tends, thread_at, to_thread, true, true≢false, waits, woken_in, ℕ, ◌&&◌, ◌<◌, ◌==◌, ◌∙◌, ◌∷◌, ◌≡◌}
+use Rattle.um_refinement.proofs.Words.{opening, is_some, Act, Addr, Amount, Ask, Bool, Cell, Exchange, Fine, FineAct, FineStep, Fits, Guarded, Image, IsStatic, IsTrue, List, MayChoose, None, Offers, Pending, ROWS, Site, SiteState, Some, State, Steps, THREADS, ThreadIs, ThreadIx, Todo, Todos, Unseen, [], act_in, address_of, and_from, and_parts, ap, behind_birth, by_me, bytes, call_is, eq-eqb, false, false≢true, goes, if◌then◌else◌, inl, inr, is_visit, is_word_read, leftover_in, length, list_all, list_any, ltb-true, names_row, nat_lt, not, own_row, refl, row_named, says_idle, says_show, shows, site_takes, skips_drops, skips_inherit, slice_index_or, subst, sym, tends, thread_at, to_thread, true, true≢false, waits, woken_in, ℕ, ◌&&◌, ◌<◌, ◌==◌, ◌∙◌, ◌∷◌, ◌≡◌}
 use Rattle.um_machine.specs.Joins as Plain
+use Rattle.um_machine.specs.State.{is_waiting, object_at, waiters_in}
 use Rattle.um_machine.specs.Table as T
+use Rattle.um_machine.specs.Time.{has_run_out, next_deadline}
+use Rattle.um_fine.specs.Seeking.{stands_in}
 use Rattle.um_words.specs.declared.fine.Mark.{Mark}
 use Rattle.um_fine.specs.Answers.{is_killed, is_shut_act, is_void, now_in}
 use Rattle.um_fine.specs.Asks as A
@@ -22,6 +25,7 @@ use Rattle.um_refinement.proofs.LeaveSteps.{leave-started, left-chosen, left-ste
 use Rattle.um_refinement.proofs.SearchSteps.{cut-cell, cut-chosen, cut-started, cut-step, expire-chosen, expire-step, timeout-cell, timeout-chosen, timeout-step, timer-below}
 use Rattle.um_refinement.proofs.StepsLeft.{BeginsNothing, first-rests, offered-awake}
 use Rattle.um_refinement.proofs.StopSteps.{abort-step, continue-step, suspend-step}
+use Rattle.um_refinement.proofs.FirstWaits.{IsBooted, opening-armed, opening-calm, opening-waits, stopped-stays}
 use Rattle.um_refinement.proofs.TimeSteps.{acts-started, arm-step, arm-timer-step, tick-chosen, tick-step}
 use Rattle.um_refinement.proofs.WaitersFound.{WaitersWait}
 use Rattle.um_refinement.proofs.CallsKnown.{RestsHoldNothing, calls-known}
@@ -63,6 +67,7 @@ pub record Suits (f : Fine) (m : State) : Type 0 where
   pub rests : RestsHoldNothing m
   pub proper : AreProper m.image m
   pub waits : WaitersWait m
+  pub booted : IsBooted m
 
 -- what a step leaves, and that the machine goes there
 pub record Next (f : Fine) (m : State) (e : FineStep) : Type 0 where
@@ -337,31 +342,53 @@ module _ (f : Fine) (m : State) (e : FineStep) (law : Lawful f m e) (suits : Sui
             (cut-started f m law.rel suits.waits law.sound.wide.threads e.cpu law.by.named e law.by.may law.taken who site before todo at said);
       }
 
+  -- who waits, a timer that runs and an armed deadline are of an image with a boot entry
+
+  has-boots : (m ≡ opening m.image → ⊥) → 0 < length f.image.boots
+  has-boots apart = by suits.booted
+    where
+      by : IsBooted m → 0 < length f.image.boots
+      by (inl some) = subst (λ (i : Image). 0 < length i.boots) law.rel.image some
+      by (inr first) = absurd (apart first)
+
+  when-waits : (c t : ℕ) → stands_in t (waiters_in m c) ≡ true → 0 < length f.image.boots
+  when-waits c t h = has-boots (λ first. false≢true (sym (ap (stands_in t) (ap (λ (z : State). waiters_in z c) first ∙ opening-waits m.image c)) ∙ h))
+
+  when-runs : (x : ℕ) → has_run_out m.now (object_at m x).contents ≡ true → 0 < length f.image.boots
+  when-runs x h =
+      has-boots (λ first. false≢true (sym (ap (λ (z : State). has_run_out m.now (object_at z x).contents) first ∙ stopped-stays m.now (object_at (opening m.image) x).contents (opening-calm m.image x).stopped) ∙ h))
+
+  when-armed : is_some (next_deadline m.now m.armed) ≡ true → 0 < length f.image.boots
+  when-armed h = has-boots (λ first. false≢true (sym (ap (λ ds. is_some (next_deadline m.now ds)) (ap (λ (z : State). z.armed) first ∙ opening-armed m.image)) ∙ h))
+
   handle-next : (deadline : ℕ) (mark : Mark) (todo : Todos) → p.todo ≡ Todo.handle deadline mark ∷ todo → (b : Bool) → is_void e.act ≡ b → Next f m e
   handle-next deadline mark todo at true void = quietly Unseen.Void (is-void _ (made-says f m e law (Todo.handle deadline mark ∷ todo) at) void)
   handle-next deadline (Mark.Thread who site) todo at false found =
       let t = actor_or f.image p.actor in
       let said = is-found (made-says f m e law (Todo.handle deadline (Mark.Thread who site) ∷ todo) at) found in
       let x = timeout-cell f m law.rel suits.waits law.sound.wide.threads e.cpu law.by.named e law.by.may law.taken deadline who site todo at said in
+      let chosen = timeout-chosen f m law.rel suits.waits law.sound.wide.threads e.cpu law.by.named e law.by.may law.taken deadline who site todo at said t in
+      let boots = when-waits x.0 who.0 (and_parts (is_waiting (thread_at m who.0)) _ (and_parts _ _ chosen).1).1 in
       record {
         state = T.after m t x.0 (Pending.TimeOut who) (thread_at m t).pending;
         has = tt;
-        goes = timeout-step f m law.rel suits.waits law.sound.wide.threads e.cpu law.by.named e law.by.may law.taken deadline who site todo at said;
+        goes = timeout-step f m law.rel suits.waits law.sound.wide.threads e.cpu law.by.named e law.by.may law.taken deadline who site todo at said boots;
         leaves = beside t x.0 (Pending.TimeOut who) (times_out deadline site x.0 who todo at x.1 x.2 said)
             (timeout-chosen f m law.rel suits.waits law.sound.wide.threads e.cpu law.by.named e law.by.may law.taken deadline who site todo at said t)
-            (acts-started f m law.rel e.cpu law.by.named);
+            (acts-started f m law.rel e.cpu law.by.named boots);
       }
   handle-next deadline (Mark.Timer x) todo at false found =
       let t = actor_or f.image p.actor in
       let said = is-found (made-says f m e law (Todo.handle deadline (Mark.Timer x) ∷ todo) at) found in
+      let boots = when-runs x.0 (expire-chosen f m law.rel suits.waits law.sound.wide.threads e.cpu law.by.named e law.by.may law.taken deadline x todo at said t) in
       record {
         state = T.after m t x.0 Pending.Expire (thread_at m t).pending;
         has = tt;
-        goes = expire-step f m law.rel suits.waits law.sound.wide.threads e.cpu law.by.named e law.by.may law.taken deadline x todo at said;
+        goes = expire-step f m law.rel suits.waits law.sound.wide.threads e.cpu law.by.named e law.by.may law.taken deadline x todo at said boots;
         leaves = beside t x.0 Pending.Expire
             (expires deadline x todo at (timer-below f m law.rel suits.waits law.sound.wide.threads e.cpu law.by.named e law.by.may law.taken deadline x todo at said) said)
             (expire-chosen f m law.rel suits.waits law.sound.wide.threads e.cpu law.by.named e law.by.may law.taken deadline x todo at said t)
-            (acts-started f m law.rel e.cpu law.by.named);
+            (acts-started f m law.rel e.cpu law.by.named boots);
       }
 
   leave-next : (todo : Todos) → p.todo ≡ Todo.leave ∷ todo → (b : Bool) → is_shut_act e.act ≡ b → Next f m e
@@ -398,12 +425,13 @@ module _ (f : Fine) (m : State) (e : FineStep) (law : Lawful f m e) (suits : Sui
   take-next at (gives x site said first moved) = quietly Unseen.Due said
   take-next at (K.ticks now site said next moved) =
       let t = actor_or f.image p.actor in
+      let boots = when-armed (tick-chosen f m law.rel e.cpu law.by.named now next) in
       record {
         state = T.after m t 0 Pending.Tick (thread_at m t).pending;
         has = tt;
-        goes = tick-step f m law.rel e.cpu law.by.named now next e said;
+        goes = tick-step f m law.rel e.cpu law.by.named now next boots e said;
         leaves = beside t 0 Pending.Tick (ticks at (said ∙ ap (λ n. by_actor f.image p (Act.Tick n)) (sym (ap (λ z. now_in (act_in z)) said)))) (tick-chosen f m law.rel e.cpu law.by.named now next)
-            (acts-started f m law.rel e.cpu law.by.named);
+            (acts-started f m law.rel e.cpu law.by.named boots);
       }
 
   by-todo : (todo : Todos) → p.todo ≡ todo → Next f m e

@@ -141,15 +141,15 @@ module _ (f : Fine) (m : State) (rel : Rel f m) (waiting : WaitersWait m) (long 
         let now = come.0 in
         and_from _ _ (ap (has_come m.now) until ∙ le-leb deadline m.now (subst (λ n. deadline ≤ n) rel.clock.now now)) (and_from _ _ late-waits late-stands)
 
-    pub timeout-step : let t = actor_or f.image (f.processors k).actor in Goes m e (T.after m t timeout-cell.0 (Pending.TimeOut who) (thread_at m t).pending)
-    timeout-step =
+    pub timeout-step : 0 < length f.image.boots → let t = actor_or f.image (f.processors k).actor in Goes m e (T.after m t timeout-cell.0 (Pending.TimeOut who) (thread_at m t).pending)
+    timeout-step boots =
         let t = actor_or f.image (f.processors k).actor in
         subst (λ a. GoesBy m a (T.after m t timeout-cell.0 (Pending.TimeOut who) (thread_at m t).pending)) (sym said)
         (record {
           step = Pending.TimeOut who;
           rest = (thread_at m t).pending;
           row = timeout-cell.0;
-          offered = tends refl (acts-started f m rel k l);
+          offered = tends refl (acts-started f m rel k l boots);
           chosen = timeout-chosen t;
           says = refl;
           leaves = refl;
@@ -200,15 +200,15 @@ module _ (f : Fine) (m : State) (rel : Rel f m) (waiting : WaitersWait m) (long 
     pub expire-chosen : (t : ℕ) → MayChoose m t x.0 Pending.Expire
     expire-chosen t = later-out m.now (object_at m x.0).contents out-here.0 (subst (λ n. deadline ≤ n) rel.clock.now due.0)
 
-    pub expire-step : let t = actor_or f.image (f.processors k).actor in Goes m e (T.after m t x.0 Pending.Expire (thread_at m t).pending)
-    expire-step =
+    pub expire-step : 0 < length f.image.boots → let t = actor_or f.image (f.processors k).actor in Goes m e (T.after m t x.0 Pending.Expire (thread_at m t).pending)
+    expire-step boots =
         let t = actor_or f.image (f.processors k).actor in
         subst (λ a. GoesBy m a (T.after m t x.0 Pending.Expire (thread_at m t).pending)) (sym said)
         (record {
           step = Pending.Expire;
           rest = (thread_at m t).pending;
           row = x.0;
-          offered = tends refl (acts-started f m rel k l);
+          offered = tends refl (acts-started f m rel k l boots);
           chosen = expire-chosen t;
           says = λ i. Act.Expire (address_of (sym rel.image i) x.0) (sym out-here.1 i);
           leaves = refl;

@@ -13,6 +13,7 @@ use Rattle.um_refinement.proofs.CallsKnown.{RestsHoldNothing}
 use Rattle.um_refinement.proofs.CallsProper.{AreProper, Closing, Stands, none-held, offered-proper, proper-run}
 use Rattle.um_refinement.proofs.Erased.{IsReachable}
 use Rattle.um_refinement.proofs.FirstObjects.{opening-image}
+use Rattle.um_refinement.proofs.FirstWaits.{booted-known}
 use Rattle.um_refinement.proofs.FirstThreads.{new-thread}
 use Rattle.um_refinement.proofs.LawfulSteps.{EditsOne, Suits}
 use Rattle.um_refinement.proofs.ResumeSteps.{TellsWaiters}
@@ -106,4 +107,5 @@ module _ (image : Image) (cpus : ℕ) (described : IsDescribed image) (known : I
         rests = rests-known;
         proper = proper-known;
         waits = waits-known;
+        booted = booted-known image reach.0 m reach.1;
       }

@@ -1,6 +1,6 @@
 -- That a deadline is armed, and that time goes on, are those steps of the machine, where the relation holds: the clock has the machine's time and
 -- deadlines.
-use Rattle.um_refinement.proofs.Words.{◌≡◌, ℕ, ◌+◌, ◌<◌, Option, Some, [], refl, sym, ap, ◌∙◌, subst, is_some, unwrap_or, Act, Pending, Steps, to_thread, tends, State, thread_at, FineAct, act_in, Exchange, FineStep, Site, SiteState, site_answers, Todos, Processor, CpuMay, SiteMay, shows, Fine, Rel, IsTrue, is_started}
+use Rattle.um_refinement.proofs.Words.{length, ◌≡◌, ℕ, ◌+◌, ◌<◌, Option, Some, [], refl, sym, ap, ◌∙◌, subst, is_some, unwrap_or, Act, Pending, Steps, to_thread, tends, State, thread_at, FineAct, act_in, Exchange, FineStep, Site, SiteState, site_answers, Todos, Processor, CpuMay, SiteMay, shows, Fine, Rel, IsTrue, is_started}
 use Rattle.um_machine.specs.Outcomes.{deadline_in}
 use Rattle.um_machine.specs.Table as T
 use Rattle.um_machine.specs.Time.{next_deadline}
@@ -31,7 +31,7 @@ module _ (f : Fine) (m : State) (rel : Rel f m) (k : ℕ) (l : k < f.cpus) where
   abbrev pub acts_for : ℕ
   acts_for = actor_or f.image (f.processors k).actor
 
-  pub acts-started : IsTrue (is_started (thread_at m (actor_or f.image (f.processors k).actor)).life)
+  pub acts-started : 0 < length f.image.boots → IsTrue (is_started (thread_at m (actor_or f.image (f.processors k).actor)).life)
   acts-started = (rel.processors k l).timer.actor
 
   module _ (now : ℕ) (next : later (clock f) ≡ Some now) where
@@ -42,16 +42,16 @@ module _ (f : Fine) (m : State) (rel : Rel f m) (k : ℕ) (l : k < f.cpus) where
     pub tick-chosen : IsTrue (is_some (next_deadline m.now m.armed))
     tick-chosen = ap is_some next-is
 
-    pub tick-step : (e : FineStep) → e.act ≡ by_actor f.image (f.processors k) (Act.Tick now) → let t = actor_or f.image (f.processors k).actor in
+    pub tick-step : 0 < length f.image.boots → (e : FineStep) → e.act ≡ by_actor f.image (f.processors k) (Act.Tick now) → let t = actor_or f.image (f.processors k).actor in
         Goes m e (T.after m t 0 Pending.Tick (thread_at m t).pending)
-    tick-step e said =
+    tick-step boots e said =
         let t = actor_or f.image (f.processors k).actor in
         subst (λ a. GoesBy m a (T.after m t 0 Pending.Tick (thread_at m t).pending)) (sym said)
         (record {
           step = Pending.Tick;
           rest = (thread_at m t).pending;
           row = 0;
-          offered = tends refl acts-started;
+          offered = tends refl (acts-started boots);
           chosen = tick-chosen;
           says = ap Act.Tick (sym (ap (λ o. unwrap_or o m.now) next-is));
           leaves = refl;

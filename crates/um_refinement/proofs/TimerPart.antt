@@ -112,12 +112,12 @@ module _ (f : Fine) (m : State) (e : FineStep) (law : Lawful f m e) (s : State) 
       by (time_passes at said) started = subst IsStartedBy (sym said) started
       by (tells_left todo at said) started = subst IsStartedBy (sym said) started
 
-  actor-now : IsTrue (is_started (thread_at s (actor_or f.image now.actor)).life)
-  actor-now = subst (λ a. IsTrue (is_started (thread_at s (actor_or f.image a)).life)) (sym (next-actor f.image p e)) (by e.act (by-started s leaves))
+  actor-now : 0 < length f.image.boots → IsTrue (is_started (thread_at s (actor_or f.image now.actor)).life)
+  actor-now boots = subst (λ a. IsTrue (is_started (thread_at s (actor_or f.image a)).life)) (sym (next-actor f.image p e)) (by e.act (by-started s leaves))
     where
       by : (act : FineAct) → IsStartedBy act → IsTrue (is_started (thread_at s (actor_or f.image (with_actor f.image p act).actor)).life)
       by (FineAct.Shown v more) h = stays v.thread.0 h
-      by (FineAct.Unseen u) h = stays (actor_or f.image p.actor) (law.rel.processors e.cpu law.by.named).timer.actor
+      by (FineAct.Unseen u) h = stays (actor_or f.image p.actor) ((law.rel.processors e.cpu law.by.named).timer.actor boots)
 
   -- A mark in the hand.
 
@@ -201,11 +201,11 @@ module _ (f : Fine) (m : State) (e : FineStep) (law : Lawful f m e) (s : State) 
           hand-on q todo at timed (subst IsHand at ((law.rel.processors e.cpu law.by.named).timer.hand before))
 
   abbrev IsTimer : Processor → Type 0
-  IsTimer r = IsTrue (is_started (thread_at s (actor_or f.image r.actor)).life) × (times r.todo ≡ true → IsHand r.todo)
+  IsTimer r = (0 < length f.image.boots → IsTrue (is_started (thread_at s (actor_or f.image r.actor)).life)) × (times r.todo ≡ true → IsHand r.todo)
 
   pub timer-part : (k : ℕ) → k < f.cpus → TimerIs later s k
   timer-part k l = let is = by (e.cpu == k) refl in record { actor = is.0; hand = is.1 }
     where
       by : (b : Bool) → (e.cpu == k) ≡ b → IsTimer (cond b (p_next f.image (f.processors k) e) (f.processors k))
       by true q = subst (λ j. IsTimer (p_next f.image (f.processors j) e)) (eqb-true e.cpu k q) (actor-now, hand-now)
-      by false q = let was = (law.rel.processors k l).timer in (stays (actor_or f.image (f.processors k).actor) was.actor, was.hand)
+      by false q = let was = (law.rel.processors k l).timer in (λ boots. stays (actor_or f.image (f.processors k).actor) (was.actor boots), was.hand)

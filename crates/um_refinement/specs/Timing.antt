@@ -1,5 +1,5 @@
 -- Virtual time: the clock, marks that are owed, and that who waits with a deadline has a mark.
-use Rattle.std.specs.Prelude.{◌≡◌, ℕ, ◌+◌, ◌<◌, ◌≤◌, Bool, true, false, ◌==◌, ◌&&◌, ◌||◌, not, nat_le, nat_lt, if◌then◌else◌, List, [], ◌∷◌, Option, Some, None, IsTrue}
+use Rattle.std.specs.Prelude.{length, ◌≡◌, ℕ, ◌+◌, ◌<◌, ◌≤◌, Bool, true, false, ◌==◌, ◌&&◌, ◌||◌, not, nat_le, nat_lt, if◌then◌else◌, List, [], ◌∷◌, Option, Some, None, IsTrue}
 use Rattle.std.specs.List.{list_any, list_all}
 use Rattle.um_base.specs.declared.image.Image.{Image}
 use Rattle.um_base.specs.declared.limits.TheConstants.{ROWS}
@@ -101,9 +101,10 @@ IsHand [] = ⊥
 IsHand (Todo.handle deadline mark ∷ todo) = todo ≡ Todo.paid ∷ []
 IsHand (q ∷ todo) = IsPaying (q ∷ todo)
 
--- The thread by which a processor makes the events of time was started. The list of one with a mark in its hand is that of the mark.
+-- The thread by which a processor makes the events of time was started, where the image has a boot entry. The list of one with a mark in its hand is
+-- that of the mark.
 pub record TimerIs (f : Fine) (m : State) (k : ℕ) : Type 0 where
-  pub actor : IsTrue (is_started (thread_at m (actor_or f.image (f.processors k).actor)).life)
+  pub actor : 0 < length f.image.boots → IsTrue (is_started (thread_at m (actor_or f.image (f.processors k).actor)).life)
   pub hand : times (f.processors k).todo ≡ true → IsHand (f.processors k).todo
 
 -- an act, for which a deadline may be armed
