@@ -67,7 +67,7 @@ fn ended(matrix: &Matrix, image: &Image, lines: usize, rest: &[u8], room: &mut V
     if !matrix.is_final() {
         return Verdict::NotComplete;
     }
-    dump_text(image, matrix, room);
+    dump_text(image, matrix.tables(), room);
     match first_difference(rest, room) {
         None => Verdict::Yes,
         Some(more) => Verdict::NoDump {

@@ -1,102 +1,43 @@
 //! Which line is that of a step. A line is compared with the lines of the steps that its thread may make, and the step whose line is the
 //! same is made.
 
-ghost use Rattle.std.specs.Prelude.{◌≡◌, ◌<◌, ◌≤◌, ◌∷◌, ◌++◌, ◌↔◌, [], IfSome, IfNone, IsTrue, Some, None, false, true, length, slice_get, slice_index_or, vec_capacity, codes};
+ghost use Rattle.std.specs.Prelude.{◌≡◌, ◌<◌, ◌≤◌, ◌++◌, IfSome, IfNone, Some, None, false, true, slice_get, vec_capacity, codes};
 ghost use Rattle.um_trace.specs.Names.{thread_text};
-ghost use Rattle.um_base.specs.declared.names.ThreadIx.{ThreadIx};
 ghost use Rattle.um_machine.specs.{
-  Joins.{is_ending},
-  Limits.{IsSound},
-  State.{thread_at, is_started},
+  State.{thread_at},
   declared.pending.Pending.{Pending},
 };
-ghost use Rattle.um_matrix.specs.Offered.{first_step, second_step, is_tending, rest_step, row_count};
+ghost use Rattle.um_matrix.specs.Offered.{first_step, second_step, rest_step};
 ghost use Rattle.um_audit.specs.{
   Beginnings.{AreBeginnings},
-  Steps.{IsLine, IsStepLine, IsNoStepLine, IsThreadsLine, IsNoThreadsLine, MakesLine, SaysLine, SaysNotLine},
+  Steps.{IsLineChoice, IsStepLine, IsNoStepLine, IsNoThreadsLine, SaysNotLine},
 };
 
-use crate::lines::holds_line;
-use um_base::{Act, Event, Image, ROWS, THREADS, ThreadIx};
+use crate::lines::{is_line, row_for};
+use crate::tending::by_other;
+use um_base::{Event, Image, THREADS, ThreadIx};
 use um_machine::Pending;
-use um_matrix::Matrix;
-use um_trace::{LINE_ROOM, line_text};
+use um_matrix::{Choice, Matrix, Tables};
+use um_trace::LINE_ROOM;
 
-/// Whether a line is that of an event.
-fn is_line(image: &Image, event: &Event, line: &[u8], room: &mut Vec<u8>) -> bool
-    requires { LINE_ROOM ≤ vec_capacity room.old }
-    ensures is { IsTrue result ↔ IsLine image.now line.now event.now }
-    ensures capacity { vec_capacity room.old ≤ vec_capacity room.new }
-{
-    line_text(image, event, room);
-    holds_line(room, line)
-}
-
-/// Whether a step of a thread says a line, with a row that it may choose.
-fn says_line(
-    matrix: &Matrix,
+/// What a thread at rest does next, if the line says that.
+fn at_rest(
+    tables: &Tables,
     image: &Image,
     t: usize,
-    x: usize,
-    step: &Pending,
     line: &[u8],
     room: &mut Vec<u8>,
-) -> bool
+) -> Option<Choice>
     requires thread { t < THREADS }
-    requires row { x < row_count step.now }
-    requires sound { IsSound step.now }
+    requires rest { slice_get (thread_at tables.now t).pending 0 ≡ None }
     requires room { LINE_ROOM ≤ vec_capacity room.old }
-    ensures says { IsTrue result ↔ SaysLine image.now line.now matrix.now t step.now x }
+    ensures some { IfSome result (λ choice. IsLineChoice image.now line.now tables.now t choice) }
+    ensures none { IfNone result
+        ((step : Pending) → rest_step tables.now t ≡ Some step → SaysNotLine image.now line.now tables.now t step) }
     ensures capacity { vec_capacity room.old ≤ vec_capacity room.new }
 {
-    if !matrix.may_choose(t, x, step) {
-        return false;
-    }
-    let event = Event {
-        thread: ThreadIx(t as u8),
-        act: matrix.says(t, x, step),
-    };
-    is_line(image, &event, line, room)
-}
-
-/// The row with which a step says a line.
-fn row_for(
-    matrix: &Matrix,
-    image: &Image,
-    t: usize,
-    step: &Pending,
-    line: &[u8],
-    room: &mut Vec<u8>,
-) -> Option<usize>
-    requires thread { t < THREADS }
-    requires sound { IsSound step.now }
-    requires room { LINE_ROOM ≤ vec_capacity room.old }
-    ensures inside { IfSome result (λ x. x < row_count step.now) }
-    ensures found { IfSome result (λ x. SaysLine image.now line.now matrix.now t step.now x) }
-    ensures none { IfNone result (SaysNotLine image.now line.now matrix.now t step.now) }
-    ensures capacity { vec_capacity room.old ≤ vec_capacity room.new }
-{
-    for x in 0..matrix.row_count(step) {
-        if says_line(matrix, image, t, x, step, line, room) {
-            return Some(x);
-        }
-    }
-    None
-}
-
-/// Makes what a thread at rest does next, if the line says that.
-fn at_rest(matrix: &mut Matrix, image: &Image, t: usize, line: &[u8], room: &mut Vec<u8>) -> bool
-    requires thread { t < THREADS }
-    requires rest { slice_get (thread_at matrix.old t).pending 0 ≡ None }
-    requires room { LINE_ROOM ≤ vec_capacity room.old }
-    ensures yes { result ≡ true → IsThreadsLine image.now line.now t matrix.old matrix.new }
-    ensures none { result ≡ false → (step : Pending) → rest_step matrix.old t ≡ Some step
-        → SaysNotLine image.now line.now matrix.old t step }
-    ensures same { result ≡ false → matrix.new ≡ matrix.old }
-    ensures capacity { vec_capacity room.old ≤ vec_capacity room.new }
-{
-    let act = match matrix.rest_act(t) {
-        None => return false,
+    let act = match tables.rest_act(t) {
+        None => return None,
         Some(act) => act,
     };
     let event = Event {
@@ -104,298 +45,161 @@ fn at_rest(matrix: &mut Matrix, image: &Image, t: usize, line: &[u8], room: &mut
         act,
     };
     if !is_line(image, &event, line, room) {
-        return false;
+        return None;
     }
-    match event.act {
-        Act::Exit => matrix.exit(t),
-        Act::Killed => matrix.killed(t),
-        _ => matrix.begin(t),
-    }
-    true
+    Some(Choice::at_rest(&event.act))
 }
 
-/// Makes a pending step of a thread, if the line is what it says. `taken` steps are over then, which counts one that is left out before it.
-fn by_step(
-    matrix: &mut Matrix,
+/// A thread's next step, if the line says that.
+fn by_first(
+    tables: &Tables,
     image: &Image,
     t: usize,
-    step: &Pending,
-    taken: usize,
     line: &[u8],
     room: &mut Vec<u8>,
-) -> bool
+) -> Option<Choice>
     requires thread { t < THREADS }
-    requires sound { IsSound step.now }
-    requires taken { 0 < taken }
     requires room { LINE_ROOM ≤ vec_capacity room.old }
-    ensures yes { result ≡ true → MakesLine image.now line.now matrix.old t step.now taken matrix.new }
-    ensures none { result ≡ false → SaysNotLine image.now line.now matrix.old t step.now }
-    ensures same { result ≡ false → matrix.new ≡ matrix.old }
+    ensures some { IfSome result (λ choice. IsLineChoice image.now line.now tables.now t choice) }
+    ensures none { IfNone result
+        ((step : Pending) → first_step tables.now t ≡ Some step → SaysNotLine image.now line.now tables.now t step) }
     ensures capacity { vec_capacity room.old ≤ vec_capacity room.new }
 {
-    match row_for(matrix, image, t, step, line, room) {
-        Some(x) => {
-            matrix.make(t, x, step, taken);
-            true
-        }
-        None => false,
+    match tables.next_step(t) {
+        None => at_rest(tables, image, t, line, room),
+        Some(step) => match row_for(tables, image, t, &step, line, room) {
+            None => None,
+            Some(row) => Some(Choice::Makes {
+                step,
+                row,
+                taken: 1,
+            }),
+        },
     }
 }
 
-/// Makes a thread's next step, if the line says that.
-fn by_first(matrix: &mut Matrix, image: &Image, t: usize, line: &[u8], room: &mut Vec<u8>) -> bool
-    requires thread { t < THREADS }
-    requires room { LINE_ROOM ≤ vec_capacity room.old }
-    ensures yes { result ≡ true → IsThreadsLine image.now line.now t matrix.old matrix.new }
-    ensures none { result ≡ false → (step : Pending) → first_step matrix.old t ≡ Some step
-        → SaysNotLine image.now line.now matrix.old t step }
-    ensures same { result ≡ false → matrix.new ≡ matrix.old }
-    ensures capacity { vec_capacity room.old ≤ vec_capacity room.new }
-{
-    match matrix.next_step(t) {
-        None => at_rest(matrix, image, t, line, room),
-        Some(step) => by_step(matrix, image, t, &step, 1, line, room),
-    }
-}
-
-/// Makes the step after one that may be left out, if the line says that.
-fn by_second(matrix: &mut Matrix, image: &Image, t: usize, line: &[u8], room: &mut Vec<u8>) -> bool
-    requires thread { t < THREADS }
-    requires room { LINE_ROOM ≤ vec_capacity room.old }
-    ensures yes { result ≡ true → IsThreadsLine image.now line.now t matrix.old matrix.new }
-    ensures none { result ≡ false → (step : Pending) → second_step matrix.old t ≡ Some step
-        → SaysNotLine image.now line.now matrix.old t step }
-    ensures same { result ≡ false → matrix.new ≡ matrix.old }
-    ensures capacity { vec_capacity room.old ≤ vec_capacity room.new }
-{
-    match matrix.second_step(t) {
-        None => false,
-        Some(step) => by_step(matrix, image, t, &step, 2, line, room),
-    }
-}
-
-/// A thread in its end tells those who wait for it, if the line says that.
-fn by_leaving(matrix: &mut Matrix, image: &Image, t: usize, line: &[u8], room: &mut Vec<u8>) -> bool
-    requires thread { t < THREADS }
-    requires room { LINE_ROOM ≤ vec_capacity room.old }
-    ensures yes { result ≡ true → IsThreadsLine image.now line.now t matrix.old matrix.new }
-    ensures none { result ≡ false → IsTrue (is_ending (thread_at matrix.old t))
-        → SaysNotLine image.now line.now matrix.old t Pending.Left }
-    ensures same { result ≡ false → matrix.new ≡ matrix.old }
-    ensures capacity { vec_capacity room.old ≤ vec_capacity room.new }
-{
-    if !matrix.is_ending(t) {
-        return false;
-    }
-    match row_for(matrix, image, t, &Pending::Left, line, room) {
-        Some(_) => {
-            matrix.left(t);
-            true
-        }
-        None => false,
-    }
-}
-
-/// Makes a step that isn't of an instruction, if the line says that.
-fn by_tending(
-    matrix: &mut Matrix,
+/// The step after one that may be left out, if the line says that.
+fn by_second(
+    tables: &Tables,
     image: &Image,
     t: usize,
-    step: &Pending,
     line: &[u8],
     room: &mut Vec<u8>,
-) -> bool
+) -> Option<Choice>
     requires thread { t < THREADS }
-    requires started { IsTrue (is_started (thread_at matrix.old t).life) }
-    requires tends { IsTrue (is_tending step.now) }
-    requires sound { IsSound step.now }
     requires room { LINE_ROOM ≤ vec_capacity room.old }
-    ensures yes { result ≡ true → IsThreadsLine image.now line.now t matrix.old matrix.new }
-    ensures none { result ≡ false → SaysNotLine image.now line.now matrix.old t step.now }
-    ensures same { result ≡ false → matrix.new ≡ matrix.old }
+    ensures some { IfSome result (λ choice. IsLineChoice image.now line.now tables.now t choice) }
+    ensures none { IfNone result
+        ((step : Pending) → second_step tables.now t ≡ Some step → SaysNotLine image.now line.now tables.now t step) }
     ensures capacity { vec_capacity room.old ≤ vec_capacity room.new }
 {
-    match row_for(matrix, image, t, step, line, room) {
-        Some(x) => {
-            matrix.tend(t, x, step);
-            true
-        }
-        None => false,
+    match tables.second_step(t) {
+        None => None,
+        Some(step) => match row_for(tables, image, t, &step, line, room) {
+            None => None,
+            Some(row) => Some(Choice::Makes {
+                step,
+                row,
+                taken: 2,
+            }),
+        },
     }
 }
 
-/// Makes a step that ends the wait of another thread, if the line says that.
-fn by_waking(matrix: &mut Matrix, image: &Image, t: usize, line: &[u8], room: &mut Vec<u8>) -> bool
-    requires thread { t < THREADS }
-    requires started { IsTrue (is_started (thread_at matrix.old t).life) }
-    requires room { LINE_ROOM ≤ vec_capacity room.old }
-    ensures yes { result ≡ true → IsThreadsLine image.now line.now t matrix.old matrix.new }
-    ensures times { result ≡ false → (who : ThreadIx)
-        → SaysNotLine image.now line.now matrix.old t (Pending.TimeOut who) }
-    ensures cuts { result ≡ false → (who : ThreadIx)
-        → SaysNotLine image.now line.now matrix.old t (Pending.Cut who) }
-    ensures same { result ≡ false → matrix.new ≡ matrix.old }
-    ensures capacity { vec_capacity room.old ≤ vec_capacity room.new }
-{
-    for who in 0..THREADS {
-        let who = ThreadIx(who as u8);
-        if by_tending(matrix, image, t, &Pending::TimeOut { who }, line, room) {
-            return true;
-        }
-        if by_tending(matrix, image, t, &Pending::Cut { who }, line, room) {
-            return true;
-        }
-    }
-    false
-}
-
-/// Makes a step of virtual time alone, or frees an object, if the line says that.
-fn by_clock(matrix: &mut Matrix, image: &Image, t: usize, line: &[u8], room: &mut Vec<u8>) -> bool
-    requires thread { t < THREADS }
-    requires started { IsTrue (is_started (thread_at matrix.old t).life) }
-    requires room { LINE_ROOM ≤ vec_capacity room.old }
-    ensures yes { result ≡ true → IsThreadsLine image.now line.now t matrix.old matrix.new }
-    ensures objects { result ≡ false → SaysNotLine image.now line.now matrix.old t Pending.Recycle }
-    ensures ticks { result ≡ false → SaysNotLine image.now line.now matrix.old t Pending.Tick }
-    ensures timers { result ≡ false → SaysNotLine image.now line.now matrix.old t Pending.Expire }
-    ensures same { result ≡ false → matrix.new ≡ matrix.old }
-    ensures capacity { vec_capacity room.old ≤ vec_capacity room.new }
-{
-    if by_tending(matrix, image, t, &Pending::Recycle, line, room) {
-        return true;
-    }
-    if by_tending(matrix, image, t, &Pending::Tick, line, room) {
-        return true;
-    }
-    by_tending(matrix, image, t, &Pending::Expire, line, room)
-}
-
-/// Who has a pair with the object of a row.
-fn holders_of(pairs: &[[bool; THREADS]], x: usize) -> &[bool]
-    ensures value { result.now ≡ slice_index_or pairs.now x [] }
-    ensures few { length result.now ≤ THREADS }
-{
-    match pairs.get(x) {
-        Some(holders) => holders,
-        None => &[],
-    }
-}
-
-/// Drops a permission on the object of one row, of a thread whose own object is gone, if the line says that.
-fn by_pair_at(
-    matrix: &mut Matrix,
+/// One of a thread's own steps, if the line says that.
+fn by_steps(
+    tables: &Tables,
     image: &Image,
     t: usize,
-    x: usize,
     line: &[u8],
     room: &mut Vec<u8>,
-) -> bool
+) -> Option<Choice>
     requires thread { t < THREADS }
-    requires row { x < ROWS }
-    requires started { IsTrue (is_started (thread_at matrix.old t).life) }
     requires room { LINE_ROOM ≤ vec_capacity room.old }
-    ensures yes { result ≡ true → IsThreadsLine image.now line.now t matrix.old matrix.new }
-    ensures none { result ≡ false → (who : ThreadIx)
-        → SaysLine image.now line.now matrix.old t (Pending.CleanPair who) x → ⊥ }
-    ensures same { result ≡ false → matrix.new ≡ matrix.old }
+    ensures some { IfSome result (λ choice. IsLineChoice image.now line.now tables.now t choice) }
+    ensures first { IfNone result
+        ((step : Pending) → first_step tables.now t ≡ Some step → SaysNotLine image.now line.now tables.now t step) }
+    ensures second { IfNone result
+        ((step : Pending) → second_step tables.now t ≡ Some step → SaysNotLine image.now line.now tables.now t step) }
     ensures capacity { vec_capacity room.old ≤ vec_capacity room.new }
 {
-    for who in 0..holders_of(matrix.pairs(), x).len() {
-        let who = ThreadIx(who as u8);
-        if says_line(matrix, image, t, x, &Pending::CleanPair { who }, line, room) {
-            matrix.clean_pair(t, x, who);
-            return true;
-        }
+    match by_first(tables, image, t, line, room) {
+        Some(choice) => Some(choice),
+        None => by_second(tables, image, t, line, room),
     }
-    false
 }
 
-/// Drops a permission of a thread whose own object is gone, if the line says that.
-fn by_pair(matrix: &mut Matrix, image: &Image, t: usize, line: &[u8], room: &mut Vec<u8>) -> bool
-    requires thread { t < THREADS }
-    requires started { IsTrue (is_started (thread_at matrix.old t).life) }
-    requires room { LINE_ROOM ≤ vec_capacity room.old }
-    ensures yes { result ≡ true → IsThreadsLine image.now line.now t matrix.old matrix.new }
-    ensures none { result ≡ false → (who : ThreadIx)
-        → SaysNotLine image.now line.now matrix.old t (Pending.CleanPair who) }
-    ensures same { result ≡ false → matrix.new ≡ matrix.old }
-    ensures capacity { vec_capacity room.old ≤ vec_capacity room.new }
-{
-    for x in 0..matrix.pairs().len() {
-        if by_pair_at(matrix, image, t, x, line, room) {
-            return true;
-        }
-    }
-    false
-}
-
-/// Makes a step that isn't of an instruction, if the line is that of one.
-fn by_other(matrix: &mut Matrix, image: &Image, t: usize, line: &[u8], room: &mut Vec<u8>) -> bool
+/// A step of a thread, if the line is that of one.
+fn by_thread(
+    tables: &Tables,
+    image: &Image,
+    t: usize,
+    line: &[u8],
+    room: &mut Vec<u8>,
+) -> Option<Choice>
     requires thread { t < THREADS }
     requires room { LINE_ROOM ≤ vec_capacity room.old }
-    ensures yes { result ≡ true → IsThreadsLine image.now line.now t matrix.old matrix.new }
-    ensures none { result ≡ false → IsTrue (is_started (thread_at matrix.old t).life) → (step : Pending) → IsTrue (is_tending step)
-        → SaysNotLine image.now line.now matrix.old t step }
-    ensures same { result ≡ false → matrix.new ≡ matrix.old }
+    ensures some { IfSome result (λ choice. IsLineChoice image.now line.now tables.now t choice) }
+    ensures none { IfNone result (IsNoThreadsLine image.now line.now t tables.now) }
     ensures capacity { vec_capacity room.old ≤ vec_capacity room.new }
 {
-    if !matrix.is_started(t) {
-        return false;
+    match by_steps(tables, image, t, line, room) {
+        Some(choice) => Some(choice),
+        None => match by_other(tables, image, t, line, room) {
+            Some(choice) => Some(choice),
+            None => None,
+        },
     }
-    if by_clock(matrix, image, t, line, room) {
-        return true;
-    }
-    if by_pair(matrix, image, t, line, room) {
-        return true;
-    }
-    by_waking(matrix, image, t, line, room)
-}
-
-/// Makes a step of a thread, if the line is that of one.
-fn by_thread(matrix: &mut Matrix, image: &Image, t: usize, line: &[u8], room: &mut Vec<u8>) -> bool
-    requires thread { t < THREADS }
-    requires room { LINE_ROOM ≤ vec_capacity room.old }
-    ensures yes { result ≡ true → IsThreadsLine image.now line.now t matrix.old matrix.new }
-    ensures no { result ≡ false → IsNoThreadsLine image.now line.now t matrix.old }
-    ensures same { result ≡ false → matrix.new ≡ matrix.old }
-    ensures capacity { vec_capacity room.old ≤ vec_capacity room.new }
-{
-    if by_first(matrix, image, t, line, room) {
-        return true;
-    }
-    if by_second(matrix, image, t, line, room) {
-        return true;
-    }
-    if by_leaving(matrix, image, t, line, room) {
-        return true;
-    }
-    by_other(matrix, image, t, line, room)
 }
 
 /// The same, with a first look at how the line begins: a thread's lines begin with its name.
 fn by_named(
-    matrix: &mut Matrix,
+    tables: &Tables,
     image: &Image,
     t: usize,
     beginning: &[u8],
     line: &[u8],
     room: &mut Vec<u8>,
-) -> bool
+) -> Option<Choice>
     requires thread { t < THREADS }
     requires beginning { beginning.now ≡ thread_text image.now t ++ codes " " }
     requires room { LINE_ROOM ≤ vec_capacity room.old }
-    ensures yes { result ≡ true → IsThreadsLine image.now line.now t matrix.old matrix.new }
-    ensures no { result ≡ false → IsNoThreadsLine image.now line.now t matrix.old }
-    ensures same { result ≡ false → matrix.new ≡ matrix.old }
+    ensures some { IfSome result (λ choice. IsLineChoice image.now line.now tables.now t choice) }
+    ensures none { IfNone result (IsNoThreadsLine image.now line.now t tables.now) }
     ensures capacity { vec_capacity room.old ≤ vec_capacity room.new }
 {
     if !line.starts_with(beginning) {
-        return false;
+        return None;
     }
-    by_thread(matrix, image, t, line, room)
+    by_thread(tables, image, t, line, room)
 }
 
-/// Makes a step, if the line is that of one. The line begins with the thread's object. Any other line changes nothing.
+/// A thread and a step of it, if the line is that of one. The line begins with the thread's object.
+fn choice_of(
+    tables: &Tables,
+    image: &Image,
+    names: &[Vec<u8>],
+    line: &[u8],
+    room: &mut Vec<u8>,
+) -> Option<(usize, Choice)>
+    requires names { AreBeginnings image.now names.now }
+    requires room { LINE_ROOM ≤ vec_capacity room.old }
+    ensures thread { IfSome result (λ found. found.0 < THREADS) }
+    ensures some { IfSome result (λ found. IsLineChoice image.now line.now tables.now found.0 found.1) }
+    ensures none { IfNone result (IsNoStepLine image.now line.now tables.now) }
+    ensures capacity { vec_capacity room.old ≤ vec_capacity room.new }
+{
+    let _threads = tables.threads().len();
+    for (t, name) in names.iter().enumerate() {
+        match by_named(tables, image, t, name.as_slice(), line, room) {
+            Some(choice) => return Some((t, choice)),
+            None => {}
+        }
+    }
+    None
+}
+
+/// Makes a step, if the line is that of one. Any other line changes nothing.
 pub fn takes_line(
     matrix: &mut Matrix,
     image: &Image,
@@ -410,11 +214,11 @@ pub fn takes_line(
     ensures same { result ≡ false → matrix.new ≡ matrix.old }
     ensures capacity { vec_capacity room.old ≤ vec_capacity room.new }
 {
-    let _threads = matrix.threads().len();
-    for (t, name) in names.iter().enumerate() {
-        if by_named(matrix, image, t, name.as_slice(), line, room) {
-            return true;
+    match choice_of(matrix.tables(), image, names, line, room) {
+        None => false,
+        Some((t, choice)) => {
+            matrix.make(t, &choice);
+            true
         }
     }
-    false
 }

@@ -5,7 +5,7 @@ mod TableLemmas
 pub mod OfferLemmas
 mod PairLemmas
 mod RunLemmas
-mod ReachLemmas
+pub mod ReachLemmas
 mod StartLemmas
 mod StringLemmas
 mod WorkLemmas
