@@ -77,7 +77,7 @@ module _ (f : Fine) (m : State) (e : FineStep) (law : Lawful f m e) where
       by false q = let now = ap (λ (c : Clock). c.now) (clock-else f m e law q) in omega (arith, now)
 
   -- the clock where a step on a list isn't made there
-  clock-same : (q : Todo) (todo : Todos) → p.todo ≡ q ∷ todo → is_timing q ≡ false → clock later ≡ clock f
+  pub clock-same : (q : Todo) (todo : Todos) → p.todo ≡ q ∷ todo → is_timing q ≡ false → clock later ≡ clock f
   clock-same q todo at off = clock-else f m e law (ap (λ i. same_site i Site.clock) (made-at f m e law (q ∷ todo) at) ∙ off-clock f.image p q todo off (is-placed f m e law q todo at))
 
   -- What the clock's marks keep.
@@ -360,13 +360,13 @@ module _ (f : Fine) (m : State) (e : FineStep) (law : Lawful f m e) where
   paying-none d mark (Todo.paid ∷ todo) h = ap (counted (handles d mark)) h
   paying-none d mark (q ∷ todo) h = absurd h
 
-  hand-tail : (d : ℕ) (mark : Mark) (q : Todo) (todo : Todos) → IsHand (q ∷ todo) → counted (handles d mark) todo ≡ 0
+  pub hand-tail : (d : ℕ) (mark : Mark) (q : Todo) (todo : Todos) → IsHand (q ∷ todo) → counted (handles d mark) todo ≡ 0
   hand-tail d mark (Todo.handle deadline other) todo h = ap (counted (handles d mark)) h
   hand-tail d mark (Todo.wake who told) todo h = paying-none d mark todo h
   hand-tail d mark Todo.paid todo h = ap (counted (handles d mark)) h
   hand-tail d mark q todo h = absurd h
 
-  handle-paid : (d : ℕ) (mark : Mark) (todo : Todos) → AreFramed f.image todo → 0 < counted (handles d mark) todo → times todo ≡ true
+  pub handle-paid : (d : ℕ) (mark : Mark) (todo : Todos) → AreFramed f.image todo → 0 < counted (handles d mark) todo → times todo ≡ true
   handle-paid d mark [] framed some = absurd (omega (arith, some))
   handle-paid d mark (Todo.handle deadline other ∷ todo) framed some = ap times framed.0
   handle-paid d mark (q ∷ todo) framed some =

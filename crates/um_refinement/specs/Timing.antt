@@ -15,6 +15,7 @@ use Rattle.um_fine.specs.Processor.{actor_or}
 use Rattle.um_fine.specs.Seeking.{deadline_of}
 use Rattle.um_refinement.specs.Fine.{Fine, clock, one_if, over_processors, scheduler}
 use Rattle.um_refinement.specs.Lists.{counted, is_arm, times}
+use Rattle.um_refinement.specs.Objects.{recyclers, wipers}
 use Rattle.um_refinement.specs.Stops.{cell_site, is_waiting_site, waits_at}
 
 -- The clock has the machine's time and deadlines.
@@ -84,9 +85,9 @@ pub record TimeoutComes (f : Fine) (m : State) (t : ℕ) : Type 0 where
   pub comes : (c d : ℕ) → c < ROWS + 2 → waits_at m t c ≡ true → (thread_at m t).until ≡ Some d → IsToCome f d (Mark.Thread (record { 0 = t }) (cell_site c))
   pub until : (c : ℕ) → c < ROWS + 2 → waits_at m t c ≡ true → deadline_of t (waiters_in m c) ≡ (thread_at m t).until
 
--- A timer that runs has a mark of its deadline.
+-- A timer that runs has a mark of its deadline, unless its cell was cleared.
 pub record ExpiryComes (f : Fine) (m : State) (x : ℕ) : Type 0 where
-  pub comes : (d : ℕ) → (object_at m x).contents ≡ Contents.Running d → IsToCome f d (Mark.Timer (to_row x))
+  pub comes : (d : ℕ) → wipers f x ≡ recyclers f x → (object_at m x).contents ≡ Contents.Running d → IsToCome f d (Mark.Timer (to_row x))
 
 -- what is left of a mark that was handled: wakes, and that it is paid
 abbrev pub IsPaying : Todos → Type 0
