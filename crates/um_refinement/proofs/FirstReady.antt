@@ -6,11 +6,11 @@ use Rattle.um_refinement.proofs.FirstObjects.{loaded-image, opening-image}
 use Rattle.um_refinement.proofs.FirstThreads.{copies-long, granted-image, granted-threads, living-parked, loaded-threads, new-thread, nobodies, parked-first, set-long}
 use Rattle.um_refinement.proofs.ThreadLists.{at-here, set-else}
 
-abbrev positive : ℕ → Bool
+abbrev pub positive : ℕ → Bool
 positive zero = false
 positive (suc n) = true
 
-one-more : (n : ℕ) → positive (n + 1) ≡ true
+pub one-more : (n : ℕ) → positive (n + 1) ≡ true
 one-more n = let e : n + 1 ≡ suc n = omega arith in ap positive e
 
 or-true : (b : Bool) → (b || true) ≡ true
@@ -77,7 +77,7 @@ module _ (image : Image) (cpus : ℕ) where
   abbrev pub OneEach : Type 0
   OneEach = (t : ℕ) → occurs t (map (entry image) image.boots) ≤ 1
 
-  living-first : (t : ℕ) → t < THREADS → is_living (thread_at (opening image) t).life ≡ positive (occurs t (map (entry image) image.boots))
+  pub living-first : (t : ℕ) → t < THREADS → is_living (thread_at (opening image) t).life ≡ positive (occurs t (map (entry image) image.boots))
   living-first t l =
       booted-lives image image.boots (loaded image.partitions (blank image)) t (blank-image image) (subst (λ n. t < n) (sym (blank-long image)) l)
       ∙ (ap (λ b. positive (occurs t (map (entry image) image.boots)) || b) (blank-dead image t) ∙ or-false (positive (occurs t (map (entry image) image.boots))))

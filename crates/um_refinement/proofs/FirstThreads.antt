@@ -102,7 +102,7 @@ no-told zero t = refl
 no-told (suc n) zero = refl
 no-told (suc n) (suc t) = no-told n t
 
-abbrev unslept : Option Context
+abbrev pub unslept : Option Context
 unslept = None
 
 pub no-sleeper : (n t : ℕ) → slice_index_or (replicate n unslept) t None ≡ None
@@ -258,7 +258,7 @@ module _ (image : Image) (cpus : ℕ) where
       not-living : (life : Life) → is_living life ≡ false → life ≢ Life.Living
       not-living life h e = true≢false (sym (ap is_living e) ∙ h)
 
-indexed-long : {A B : Type 0} (g : ℕ → A → B) (i : ℕ) (xs : List A) → length (indexed g i xs) ≡ length xs
+pub indexed-long : {A B : Type 0} (g : ℕ → A → B) (i : ℕ) (xs : List A) → length (indexed g i xs) ≡ length xs
 indexed-long g i [] = refl
 indexed-long g i (x ∷ xs) = ap suc (indexed-long g (i + 1) xs)
 
