@@ -132,6 +132,7 @@ pub mod PartsElsewhere
 pub mod ListAdders
 pub mod OfVisits
 pub mod ContextsPart
+pub mod AddedPart
 pub mod ParkedPart
 pub mod OncePart
 pub mod ListDone

@@ -1,9 +1,10 @@
 -- The own parts of threads that steps on a processor's list add stay the same, but for the one that is added, and the one of a thread that is
 -- started.
 use Rattle.um_refinement.proofs.Words.{◌≡◌, ◌⊎◌, inl, inr, ℕ, Bool, true, false, ◌++◌, List, ◌∷◌, refl, sym, subst, [], true≢false, Image, Pending, Steps, Context, p_next, Todo, Todos, fine_steps, Processor, FineStep, Behind, Adds, adders}
+use Rattle.um_fine.specs.Follows.{filled_up}
 use Rattle.um_refinement.specs.Frames.{IsActOver, access_alone, access_settled, act_alone, act_settled}
 use Rattle.um_refinement.proofs.ListGrowth.{ReadsLast, forms-kept}
-use Rattle.um_refinement.proofs.ListTails.{AddsPass, Reads, is_passed, takes-read, whole-read}
+use Rattle.um_refinement.proofs.ListTails.{filled-read, AddsPass, Reads, is_passed, takes-read, whole-read}
 
 abbrev Among : Context → List Context → Type 0
 Among c [] = ⊥
@@ -77,3 +78,7 @@ module _ (image : Image) where
 
   pub takes-none : (p : Processor) (e : FineStep) (c : Context) → p.todo ≡ [] → Adds c (p_next image p e).todo → ⊥
   takes-none p e c at adds = subst (Among c) (takes-adders p e at) (adds-among c (p_next image p e).todo adds)
+
+  -- and where a list is filled up, or one more stands first
+  pub filled-adds : (d : Context) (todo : Todos) (c : Context) → Adds c (filled_up image d todo) → Adds c todo
+  filled-adds d todo c adds = among-adds c todo (subst (Among c) (filled-read image adders [] (adders-reads image) d todo) (adds-among c (filled_up image d todo) adds))
