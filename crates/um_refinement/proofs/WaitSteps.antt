@@ -1,5 +1,5 @@
 -- Who waits in a cell after a step of the machine: those who waited there, and the thread of the step where it begins to wait.
-use Rattle.um_refinement.proofs.Words.{◌≡◌, ◌⊎◌, inl, inr, ℕ, zero, suc, Bool, true, false, List, [], ◌∷◌, Option, Some, None, refl, sym, ap, ◌∙◌, subst, arith, ◌==◌, ◌&&◌, ◌||◌, not, if◌then◌else◌, list_all, list_any, and_from, and_parts, eq-eqb, eqb-false, eqb-true, false≢true, true≢false, not-true, not_from_false, Addr, Ask, Answer, Told, ThreadIx, Waiter, Contents, Pending, Steps, Next, State, object_at, thread_at, Effect, wrote, gone, effects_of, next_of, after-is, answer_in}
+use Rattle.um_refinement.proofs.Words.{◌≡◌, ◌⊎◌, inl, inr, ℕ, zero, suc, Bool, true, false, cond, List, [], ◌∷◌, Option, Some, None, refl, sym, ap, ◌∙◌, subst, arith, ◌==◌, ◌&&◌, ◌||◌, not, if◌then◌else◌, list_all, list_any, and_from, and_parts, eq-eqb, eqb-false, eqb-true, false≢true, true≢false, not-true, not_from_false, Addr, Ask, Answer, Told, ThreadIx, Waiter, Contents, Pending, Steps, Next, State, object_at, thread_at, Effect, wrote, gone, effects_of, next_of, after-is, answer_in}
 use Rattle.um_base.specs.declared.limits.TheConstants.{FUTEX_CELL, JOIN_CELL}
 use Rattle.um_invariants.proofs.ThreadCells.{IsPut, cell, cell-is, object-put, place_of, waiters-put}
 use Rattle.um_machine.proofs.AfterLemmas.{bytes-leave}
@@ -9,7 +9,8 @@ use Rattle.um_machine.specs.Goes.{went}
 use Rattle.um_machine.specs.Joins.{join_answer}
 use Rattle.um_machine.specs.Order.{to_thread}
 use Rattle.um_machine.specs.Services.{in_order, runs_out, without}
-use Rattle.um_machine.specs.State.{waiters_in}
+use Rattle.um_machine.specs.State.{waiters_in, with_waiters}
+use Rattle.um_machine.specs.Time.{told_late}
 use Rattle.um_machine.specs.Table as T
 use Rattle.um_machine.specs.Writes.{Edit, Effects, edited, effect, only, says_wait, write}
 use Rattle.um_fine.specs.Seeking.{stands_in}
@@ -224,3 +225,31 @@ module _ (s : State) (t x : ℕ) (q : Pending) (rest : Steps) (u c : ℕ) where
               decides {A = Goal} (place_of FUTEX_CELL) (futex_answer s t a.0 value timeout) (λ new. none (subst (MayBegin s t x other (place_of c)) (sym k) new))
               (λ place wait same. inr (same, subst (λ p. Begins s t x p c) (sym k) (futex-place c place, wait)))
           which p k = none (subst (MayBegin s t x other (place_of c)) (sym k) tt)
+
+-- Who is taken out of a cell doesn't wait there any more.
+
+without-gone : (t : ℕ) (ws : List Waiter) → stands_in t (without t ws) ≡ true → ⊥
+without-gone t [] h = false≢true h
+without-gone t (w ∷ ws) h = by (w.thread.0 == t) refl h (without-gone t ws)
+  where
+    by : (b : Bool) → (w.thread.0 == t) ≡ b → stands_in t (cond (not b) (w ∷ without t ws) (without t ws)) ≡ true → (stands_in t (without t ws) ≡ true → ⊥) → ⊥
+    by true e h more = more h
+    by false e h more = more (sym (ap (λ b. b || stands_in t (without t ws)) e) ∙ h)
+
+put-out : (s : State) (t x : ℕ) → stands_in t (cell (with_waiters s x (without t (waiters_in s x))) (place_of x)) ≡ true → ⊥
+put-out s t x h = by (waiters-put s x (without t (waiters_in s x)) (place_of x))
+  where
+    by : IsPut s (place_of x) (without t (waiters_in s x)) (with_waiters s x (without t (waiters_in s x))) (place_of x) → ⊥
+    by (inl (other, same)) = other refl
+    by (inr (here, inl these)) = without-gone t (waiters_in s x) (sym (ap (stands_in t) these) ∙ h)
+    by (inr (here, inr none)) = false≢true (sym (ap (stands_in t) none) ∙ h)
+
+pub timed-out-gone : (s : State) (t x : ℕ) (who : ThreadIx) (rest : Steps) → stands_in who.0 (waiters_in (T.after s t x (Pending.TimeOut who) rest) x) ≡ true → ⊥
+timed-out-gone s t x who rest h =
+    let u = with_waiters s x (without who.0 (waiters_in s x)) in
+    let woken : cell (T.after s t x (Pending.TimeOut who) rest) (place_of x) ≡ cell u (place_of x) =
+    woken-by (λ (z : State). cell z (place_of x) ≡ cell u (place_of x)) (λ z v told e. e) (told_late who x) u refl in
+    put-out s who.0 x (sym (ap (stands_in who.0) (cell-is (T.after s t x (Pending.TimeOut who) rest) x ∙ woken)) ∙ h)
+
+pub cut-gone : (s : State) (t x : ℕ) (who : ThreadIx) (rest : Steps) → stands_in who.0 (waiters_in (T.after s t x (Pending.Cut who) rest) x) ≡ true → ⊥
+cut-gone s t x who rest h = put-out s who.0 x (sym (ap (stands_in who.0) (cell-is (T.after s t x (Pending.Cut who) rest) x)) ∙ h)
