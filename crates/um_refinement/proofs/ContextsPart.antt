@@ -91,7 +91,7 @@ is_sleep_step Todo.sleep = true
 is_sleep_step q = false
 
 -- a thread that is taken is run with its own part
-take-context : (image : Image) (p : Processor) (c : Context) → (after_take image p (Exchange.thread c None)).context ≡ c
+pub take-context : (image : Image) (p : Processor) (c : Context) → (after_take image p (Exchange.thread c None)).context ≡ c
 take-context image p c =
     elim (is_empty c.pending) as (λ b. (if b then record p { context = c; todo = turn image c } else refilled_by image (record p { context = c }) []).context ≡ c) [ true ↦ refl | false ↦ refl ]
 
@@ -204,7 +204,7 @@ module _ (f : Fine) (m : State) (e : FineStep) (law : Lawful f m e) where
   pub not-idle : (q : Todo) (todo : Todos) → p.todo ≡ q ∷ todo → p.todo ≡ [] → ⊥
   not-idle q todo at idle = true≢false (ap has_steps (sym at ∙ idle))
 
-  ran : (q : Todo) (todo : Todos) → p.todo ≡ q ∷ todo → is_end q ≡ false → runs now ≡ true → runs p ≡ true
+  pub ran : (q : Todo) (todo : Todos) → p.todo ≡ q ∷ todo → is_end q ≡ false → runs now ≡ true → runs p ≡ true
   ran q todo at goes h =
       sym (goes-runs f.image p e q todo at goes (frame q todo at) (reads-last f m e law q todo at) (subst (AreBlocks f.image) at (law.rel.processors e.cpu law.by.named).blocks)) ∙ h
 

@@ -79,6 +79,9 @@ module _ (image : Image) where
   pub takes-none : (p : Processor) (e : FineStep) (c : Context) → p.todo ≡ [] → Adds c (p_next image p e).todo → ⊥
   takes-none p e c at adds = subst (Among c) (takes-adders p e at) (adds-among c (p_next image p e).todo adds)
 
-  -- and where a list is filled up, or one more stands first
+  -- and where a list is filled up
+  pub filled-adders : (d : Context) (todo : Todos) → adders (filled_up image d todo) ≡ adders todo
+  filled-adders d todo = filled-read image adders [] (adders-reads image) d todo
+
   pub filled-adds : (d : Context) (todo : Todos) (c : Context) → Adds c (filled_up image d todo) → Adds c todo
-  filled-adds d todo c adds = among-adds c todo (subst (Among c) (filled-read image adders [] (adders-reads image) d todo) (adds-among c (filled_up image d todo) adds))
+  filled-adds d todo c adds = among-adds c todo (subst (Among c) (filled-adders d todo) (adds-among c (filled_up image d todo) adds))

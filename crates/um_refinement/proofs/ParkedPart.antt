@@ -21,7 +21,7 @@ use Rattle.um_refinement.proofs.StepsLeft.{rests-on}
 use Rattle.um_refinement.proofs.Taking.{Idles, IsTaken, idles, kill-thread, parks-after, takes, tends}
 
 -- what changes who sleeps
-abbrev is_sleeping : FineAct → Bool
+abbrev pub is_sleeping : FineAct → Bool
 is_sleeping (FineAct.Unseen Unseen.Sleep) = true
 is_sleeping (FineAct.Unseen (Unseen.Rouse who)) = true
 is_sleeping act = false
@@ -44,7 +44,7 @@ asleep-kept j (FineAct.Unseen Unseen.Sleep) moved h = absurd (true≢false h)
 asleep-kept j (FineAct.Unseen (Unseen.Rouse who)) moved h = absurd (true≢false h)
 asleep-kept j (FineAct.Unseen u) moved h = refl
 
-abbrev moves_sleepers : Todo → Bool
+abbrev pub moves_sleepers : Todo → Bool
 moves_sleepers Todo.sleep = true
 moves_sleepers (Todo.rouse who) = true
 moves_sleepers q = false
@@ -212,7 +212,7 @@ module _ (f : Fine) (m : State) (e : FineStep) (law : Lawful f m e) where
       by true on = ap (λ (j : Joins). j.asleep) (joins-later (same-sound e.site Site.joins on) e.act refl) ∙ asleep-kept (joins f) e.act e.moved awake
       by false off = ap (λ (j : Joins). j.asleep) (joins-else off)
 
-  awake-act : (q : Todo) (todo : Todos) → p.todo ≡ q ∷ todo → moves_sleepers q ≡ false → is_sleeping e.act ≡ false
+  pub awake-act : (q : Todo) (todo : Todos) → p.todo ≡ q ∷ todo → moves_sleepers q ≡ false → is_sleeping e.act ≡ false
   awake-act q todo at other = ap is_sleeping (made-says f m e law (q ∷ todo) at) ∙ by q other
     where
       rests : (r : Pending) → is_sleeping (begins f.image p r e.act) ≡ false
@@ -235,7 +235,7 @@ module _ (f : Fine) (m : State) (e : FineStep) (law : Lawful f m e) where
       by (Todo.clean_pair who x) h = either-awake (is_visit e.act) _ _ refl refl
       by r h = refl
 
-  idle-awake : p.todo ≡ [] → is_sleeping e.act ≡ false
+  pub idle-awake : p.todo ≡ [] → is_sleeping e.act ≡ false
   idle-awake at = ap is_sleeping (made-says f m e law [] at) ∙ either-awake (is_due_act e.act) _ _ refl (either-awake (is_tick e.act) _ _ refl (turn e.moved))
     where
       turn : (moved : Exchange) → is_sleeping (says_turn f.image p moved) ≡ false
