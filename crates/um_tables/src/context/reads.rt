@@ -36,6 +36,29 @@ impl Context {
         self.own.pending.second()
     }
 
+    /// The step after that one. The steps stay as they are.
+    #[tactic(auto, using(crate::proofs::Fronts::third_is, crate::proofs::Fronts::put_back_twice))]
+    pub fn third(&mut self) -> Option<Pending>
+        ensures step { MatchOption result (drop 2 self.old.pending ≡ [])
+            (λ step. drop 2 self.old.pending ≡ step ∷ drop 3 self.old.pending) }
+        ensures same { self.new ≡ self.old }
+    {
+        let _few = self.own.pending.len();
+        let first = match self.own.pending.first() {
+            None => return None,
+            Some(first) => first,
+        };
+        let second = match self.own.pending.second() {
+            None => return None,
+            Some(second) => second,
+        };
+        self.own.pending.skip(2);
+        let third = self.own.pending.first();
+        self.own.pending.push(&second);
+        self.own.pending.push(&first);
+        third
+    }
+
     pub fn mode(&self) -> Mode
         ensures { result ≡ self.now.mode }
     {
