@@ -11,7 +11,7 @@ use Rattle.um_words.specs.CellActs.{join_takes}
 use Rattle.um_words.specs.declared.fine.FineAct.{FineAct}
 use Rattle.um_words.specs.declared.fine.More.{More}
 use Rattle.um_words.specs.declared.fine.Unseen.{Unseen}
-use Rattle.um_fine.specs.Answers.{act_in, is_void, woken_in}
+use Rattle.um_fine.specs.Answers.{act_in, is_shut_act, is_void, woken_in}
 use Rattle.um_fine.specs.Context.{Context}
 use Rattle.um_fine.specs.Follows.{told_all}
 use Rattle.um_fine.specs.Joins.{Joins, all_joined, asleep_at, is_joined, join_after, join_moves, join_says, roused, shut_down, sleeps}
@@ -30,14 +30,15 @@ pub record Leaves (j : Joins) (who : ThreadIx) (said : FineAct) (z : Joins) (wok
   pub leaves : z ≡ join_after j said Exchange.nothing
   pub event_is : (if joined then Some (by_thread who (Act.Left who (replies_of woken))) else None) ≡ event_of said
   pub woken_is : woken ≡ told_all (woken_in (act_in said))
+  pub joined_is : joined ≡ not (is_shut_act said)
 
 module _ (j : Joins) (who : ThreadIx) where
   abbrev ends_by : Bool → FineAct
   ends_by b = if b then FineAct.Shown (by_thread who (Act.Left who (replies_of (all_joined j who.0)))) More.Nothing else FineAct.Unseen (Unseen.Shut who)
 
   comes-by : (b : Bool) → is_joined j who.0 ≡ b → Leaves j who (ends_by b) (shut_down j who.0) (all_joined j who.0) b
-  comes-by true h = record { takes_it = refl; leaves = refl; event_is = refl; woken_is = sym (told-well _) }
-  comes-by false h = record { takes_it = refl; leaves = refl; event_is = refl; woken_is = none-joined j who.0 h }
+  comes-by true h = record { takes_it = refl; leaves = refl; event_is = refl; woken_is = sym (told-well _); joined_is = refl }
+  comes-by false h = record { takes_it = refl; leaves = refl; event_is = refl; woken_is = none-joined j who.0 h; joined_is = refl }
 
   pub leaves-joins : (z : Joins) (woken : List (ThreadIx × Told)) (joined : Bool) → joined ≡ is_joined j who.0 → woken ≡ all_joined j who.0 → z ≡ shut_down j who.0
       → Leaves j who (join_says j Exchange.nothing (FineAct.Unseen (Unseen.Shut who))) z woken joined

@@ -9,7 +9,7 @@ ghost use Rattle.um_words.specs.declared.{
   dom_word.DomWord.{DomWord},
 };
 ghost use Rattle.um_fine.specs.{
-  Answers.{act_in, answer_in, deadline_in, domain_in, is_void, thread_in, woken_in},
+  Answers.{act_in, answer_in, deadline_in, domain_in, is_shut_act, is_void, thread_in, woken_in},
   Clock.{Clock},
   Follows.{told_all},
   Heap.{Heap},
@@ -479,8 +479,8 @@ pub trait Sites {
             (Kept self.old self.new) (Contended here.now.image.now self.old (Site.joins) self.new)
             (λ j e answer. answer ≡ answer_in (act_in e.act)) };
 
-    /// The end of a thread comes, and nobody joins it any more. Writes who is woken.
-    fn leave(&mut self, here: &Here, who: ThreadIx, woken: &mut Woken) -> Said<()>
+    /// The end of a thread comes, and nobody joins it any more. Returns whether somebody waited for it, and writes who is woken.
+    fn leave(&mut self, here: &Here, who: ThreadIx, woken: &mut Woken) -> Said<bool>
         requires image { IsOf here.now.image.now self.old }
         requires goes { CanAskCell (May here.now.image.now self.old)
             (λ n j. left_made here.now.image.now here.now.cpu n j who) }
@@ -490,7 +490,7 @@ pub trait Sites {
             (λ e. Took here.now.image.now self.old e self.new)
             (λ e. Shut here.now.image.now self.old e self.new)
             (Kept self.old self.new) (Contended here.now.image.now self.old (Site.joins) self.new)
-            (λ e said. woken.new ≡ told_all (woken_in (act_in e.act)))
+            (λ e joined. (joined ≡ not (is_shut_act e.act)) × (woken.new ≡ told_all (woken_in (act_in e.act))))
             (woken.new ≡ woken.old) };
 
     /// A thread that is started next may be joined.

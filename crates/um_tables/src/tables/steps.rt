@@ -414,7 +414,7 @@ impl Sites for Tables {
         Said::Made(answer)
     }
 
-    fn leave(&mut self, here: &Here, who: ThreadIx, woken: &mut Woken) -> Said<()> {
+    fn leave(&mut self, here: &Here, who: ThreadIx, woken: &mut Woken) -> Said<bool> {
         if is_full(&self.log) {
             return Said::Changed;
         }
@@ -424,7 +424,7 @@ impl Sites for Tables {
         let joined = self.joins.leave(who, woken);
         self.joins_steps += 1;
         note(&mut self.log, left(who, woken, joined));
-        Said::Made(())
+        Said::Made(joined)
     }
 
     fn unshut(&mut self, here: &Here, who: ThreadIx) -> Said<()> {

@@ -21,7 +21,7 @@ returns-clause-said c =
           _
           (c.note.ensures.events ∙ ap (logged c.self.inside.log.items) (c.left.ensures ∙ comes.event_is))
           c.note.ensures.room,
-      comes.woken_is,
+      (comes.joined_is, comes.woken_is),
     )
 
 pub returns-then-self-ge-LAST-clause-said : goal.returns-then-self-ge-LAST-clause-said
