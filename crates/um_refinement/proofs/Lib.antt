@@ -134,6 +134,7 @@ pub mod OfVisits
 pub mod ContextsPart
 pub mod AddedPart
 pub mod ParkedPart
+pub mod Rousing
 pub mod OncePart
 pub mod ListDone
 pub mod DonePart

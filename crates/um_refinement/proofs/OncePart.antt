@@ -2,7 +2,6 @@
 use Rattle.um_refinement.proofs.Words.{List, AreBlocks, goes_on_by, sched_after, ◌≡◌, ℕ, zero, suc, ◌+◌, ◌<◌, ◌≤◌, Bool, true, false, [], ◌∷◌, Option, Some, None, refl, sym, ap, ◌∙◌, subst, arith, eq-eqb, ℤ, ◌==◌, ◌&&◌, if◌then◌else◌, is_some, not, slice_index_or, slice_set, and_parts, eqb-false, eqb-true, not-true, true≢false, get_or-set_other, Told, THREADS, Mode, Row, ThreadIx, Pending, Steps, to_thread, State, FineAct, Unseen, context_in, ready_in, begins_cleaning, Context, after_take, Todo, Todos, Processor, Scheduler, parked_at, put_back, same_site, Exchange, FineStep, Site, Fine, one_if, over_processors, scheduler, adders, has_steps, of_thread, runs, runs_thread, Fits, is_over, IsOf, places, runs_on}
 use Rattle.um_words.specs.declared.fine.Mark.{Mark}
 use Rattle.um_fine.specs.Answers.{is_void}
-use Rattle.um_fine.specs.Follows.{filled_up}
 use Rattle.um_fine.specs.Joins.{Joins, asleep_at, join_after}
 use Rattle.um_fine.specs.Places.{armed_for, settling}
 use Rattle.um_fine.specs.Scheduler.{is_cut, to_kill}
@@ -10,7 +9,6 @@ use Rattle.um_refinement.specs.Fine.{joins}
 use Rattle.um_refinement.specs.Lists.{times}
 use Rattle.um_refinement.specs.Timing.{IsHand}
 use Rattle.um_refinement.proofs.Kept.{rouses-sleeper}
-use Rattle.um_refinement.proofs.ListTails.{quiet-next}
 use Rattle.um_refinement.proofs.ParkedPart.{asleep-same, awake-act, idle-awake, is_sleeping, joins-later, moves_sleepers}
 use Rattle.um_refinement.proofs.Taking.{Idles, IsTaken, idles, kill-thread, parks-after, takes, tends}
 use Rattle.um_refinement.proofs.CleanSteps.{adds-one}
@@ -20,7 +18,7 @@ use Rattle.um_refinement.proofs.Erased.{around}
 use Rattle.um_refinement.proofs.FirstThreads.{one-most}
 use Rattle.um_refinement.proofs.HeldRows.{some-part}
 use Rattle.um_refinement.proofs.Leaves.{Beside, Lawful, Leaves, beside, cuts, expires, leaves, ticks, times_out, cleans, drops, event, nothing, passes, recycles, resumes}
-use Rattle.um_refinement.proofs.ListAdders.{filled-adders, is_rouse_step, next-adders, takes-adders}
+use Rattle.um_refinement.proofs.ListAdders.{is_rouse_step, next-adders, takes-adders}
 use Rattle.um_refinement.proofs.ListGrips.{next-thread, read-rests}
 use Rattle.um_refinement.proofs.ListRuns.{ends-rests, goes-runs, takes-none}
 use Rattle.um_refinement.proofs.ListGrowth.{is_end}
@@ -28,6 +26,7 @@ use Rattle.um_refinement.proofs.Offered.{runs-first, Shows, behind-is, shown-on}
 use Rattle.um_refinement.proofs.PartsElsewhere.{starts-apart}
 use Rattle.um_refinement.proofs.PlacesFacts.{set-none}
 use Rattle.um_refinement.proofs.ResumeSteps.{some-is}
+use Rattle.um_refinement.proofs.Rousing.{list, said, sleepers}
 use Rattle.um_refinement.proofs.RunningPart.{todo-elsewhere}
 use Rattle.um_refinement.proofs.SchedulerSteps.{made-at, made-moves, made-says, sched-else, sched-later}
 use Rattle.um_refinement.proofs.StepReads.{is-behind, is-placed, reads-last, behind_first, shows_first}
@@ -383,23 +382,13 @@ module _ (f : Fine) (m : State) (e : FineStep) (law : Lawful f m e) (s : State) 
       same : parked later ≡ parked f
       same = ap (λ (z : Scheduler). one_if (is_some (parked_at z t))) (sched-else f m e law (ap (λ i. same_site i Site.scheduler) (made-at f m e law (Todo.rouse who ∷ todo) at)))
 
-      said : (b : Bool) → is_void e.act ≡ b → e.act ≡ (if b then FineAct.Unseen Unseen.Void else FineAct.Unseen (Unseen.Rouse (to_thread who)))
-      said b k = made-says f m e law (Todo.rouse who ∷ todo) at ∙ ap (λ c. if c then FineAct.Unseen Unseen.Void else FineAct.Unseen (Unseen.Rouse (to_thread who))) k
-
-      list : (b : Bool) → is_void e.act ≡ b → (u : Unseen) → e.act ≡ FineAct.Unseen u → begins_cleaning (record e { act = FineAct.Unseen u }) ≡ false
-          → of_thread t (adders now.todo) ≡ of_thread t (adders (if b then todo else Todo.add (context_in e.moved) ∷ todo))
-      list b k u is quiet =
-          ap (λ (z : Processor). of_thread t (adders z.todo)) (quiet-next f.image p e (Todo.rouse who ∷ todo) u at is quiet)
-          ∙ (ap (λ c. of_thread t (adders (filled_up f.image p.context (if c then todo else Todo.add (context_in e.moved) ∷ todo)))) k
-          ∙ ap (of_thread t) (filled-adders f.image p.context (if b then todo else Todo.add (context_in e.moved) ∷ todo)))
-
       before-list : of_thread t (adders p.todo) ≡ of_thread t (adders todo)
       before-list = ap (λ (z : Todos). of_thread t (adders z)) at
 
       by : (b : Bool) → is_void e.act ≡ b → places later t ≤ 1
       by true void =
-          let left = list true void Unseen.Void (said true void) refl in
-          let sleepers = slept (ap is_sleeping (said true void)) in
+          let left = ap (of_thread t) (list f m e law who todo at true void) in
+          let sleepers = slept (ap is_sleeping (said f m e law who todo at true void)) in
           let less = runs-less (Todo.rouse who) todo at refl in
           let first = before-list in
           let all = sums in
@@ -409,7 +398,7 @@ module _ (f : Fine) (m : State) (e : FineStep) (law : Lawful f m e) (s : State) 
       by false found =
           let (c, here, moved) = rouses-sleeper f m law.rel p e law.by.may law.taken who todo at found in
           let is = law.rel.contexts.asleep who c here in
-          let left = list false found (Unseen.Rouse (to_thread who)) (said false found) refl in
+          let left = ap (of_thread t) (list f m e law who todo at false found) in
           let now-left : of_thread t (adders now.todo) ≡ of_thread t (adders todo) + one_if (who == t) =
           left ∙ (ap (λ n. if n == t then of_thread t (adders todo) + 1 else of_thread t (adders todo)) (ap (λ (mv : Exchange). (context_in mv).thread) moved ∙ is.1) ∙ added (who == t)) in
           let less = runs-less (Todo.rouse who) todo at refl in
@@ -417,17 +406,15 @@ module _ (f : Fine) (m : State) (e : FineStep) (law : Lawful f m e) (s : State) 
           let all = sums in
           let before = was in
           let kept = same in
-          let sleepers = gone c here (who == t) refl in
-          omega (arith, now-left, less, first, all, before, kept, sleepers)
+          let fewer = gone c here (who == t) refl in
+          omega (arith, now-left, less, first, all, before, kept, fewer)
         where
           added : (b : Bool) → (if b then of_thread t (adders todo) + 1 else of_thread t (adders todo)) ≡ of_thread t (adders todo) + one_if b
           added true = refl
           added false = omega arith
 
           after : sleeps later ≡ one_if (is_some (slice_index_or (slice_set (joins f).asleep who None) t None))
-          after =
-              ap (λ (j : Joins). one_if (is_some (asleep_at j t)))
-              (joins-later f m e law (made-at f m e law (Todo.rouse who ∷ todo) at) (FineAct.Unseen (Unseen.Rouse (to_thread who))) (said false found))
+          after = ap (λ (l : List (Option Context)). one_if (is_some (slice_index_or l t None))) (sleepers f m e law who todo at found)
 
           gone : (c : Context) → asleep_at (joins f) who ≡ Some c → (v : Bool) → (who == t) ≡ v → sleeps later + one_if v ≤ sleeps f
           gone c here true h =
