@@ -256,7 +256,7 @@ module _ (f : Fine) (m : State) (e : FineStep) (law : Lawful f m e) where
         by true over = ends-not q todo at over h
 
     -- nobody cuts the thread of an event
-    event-uncut : (s : State) (how : Leaves f m e s) (q : Todo) (todo : Todos) → p.todo ≡ q ∷ todo → CutsNot f m e law s how s how p.context.thread → IsOf f m p.context → waits p.context.pending ≡ false
+    pub event-uncut : (s : State) (how : Leaves f m e s) (q : Todo) (todo : Todos) → p.todo ≡ q ∷ todo → CutsNot f m e law s how s how p.context.thread → IsOf f m p.context → waits p.context.pending ≡ false
         → cutters later p.context.thread ≡ 0
     event-uncut s how q todo at free of awake =
         cutters-same f m e law s how p.context.thread of.index free (λ d told idle. absurd (not-idle q todo at idle)) ∙ not-cut of awake

@@ -244,10 +244,10 @@ module _ (f : Fine) (m : State) (e : FineStep) (law : Lawful f m e) (s : State) 
           on-beside _ _ _ (leaves l there said) = absurd (true≢false (ap shows_first (sym at ∙ there)))
 
   -- nothing is on its list
-  idle-runs : p.todo ≡ [] → one_if (runs_on t p) ≡ 0
+  pub idle-runs : p.todo ≡ [] → one_if (runs_on t p) ≡ 0
   idle-runs at = no-steps (runs p) (p.context.thread == t) (not (is_over p.context)) (ap (λ (z : Todos). has_steps z && not (times z)) at)
 
-  idle-adds : p.todo ≡ [] → of_thread t (adders p.todo) ≡ 0
+  pub idle-adds : p.todo ≡ [] → of_thread t (adders p.todo) ≡ 0
   idle-adds at = ap (λ (z : Todos). of_thread t (adders z)) at
 
   now-adds : p.todo ≡ [] → of_thread t (adders now.todo) ≡ 0
