@@ -114,6 +114,7 @@ pub mod IdlePart
 pub mod LifeClaims
 pub mod RowStages
 pub mod ParkedClaims
+pub mod StagedPart
 pub mod ClaimsPart
 pub mod HeldDomainPart
 pub mod Parts
