@@ -1,5 +1,5 @@
 -- Events by which a row may come to cleaning.
-use Rattle.std.proofs.Common.{◌≡◌, ℕ, Bool, refl, sym, subst, ◌∙◌}
+use Rattle.std.proofs.Common.{◌≡◌, ℕ, Bool, Some, ap, refl, sym, subst, ◌∙◌}
 use Rattle.um_base.specs.declared.image.Image.{Image}
 use Rattle.um_base.specs.declared.names.Addr.{Addr}
 use Rattle.um_base.specs.declared.names.ThreadIx.{ThreadIx}
@@ -34,5 +34,5 @@ module _ (image : Image) (cpu : ℕ) (r : Running) (phase : Phase) (who : Thread
             subst (λ (q : ℕ × ℕ). AsksFor cpu image (about_to phase (Pending.DropPair who a) r) (row_made image cpu q.0 w (RowAct.DropPair (to_thread q.1) who a)))
             (λ i. (sym ex i, sym et i))
             (record { maker = refl; makes = refl; fit = refl });
-        next = (λ i. cleaned image (sym ex i) (ec i) (ez i)) ∙ cleaned-is image x e behind_drop (begins_cleaning e) refl;
+        next = (λ i. cleaned image (sym ex i) (ec i) ((ez ∙ ap (λ (k : ℕ). record behind_drop { actor = Some k }) (sym et)) i)) ∙ cleaned-is image x e (record behind_drop { actor = r.actor }) (begins_cleaning e) refl;
       }

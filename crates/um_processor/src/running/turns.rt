@@ -29,10 +29,13 @@ impl Running {
     {
         let woken = made!(sites.take(here, &mut self.context, &mut self.told));
         if woken {
+            self.actor = Some(self.context.thread());
             self.context.resumes(here.image, &self.told);
             self.expands(here.image);
-        } else {
+        } else if self.context.first().is_none() {
             self.turns(here.image);
+        } else {
+            self.expands(here.image);
         }
         Turn::Made
     }
@@ -59,7 +62,7 @@ impl Running {
         }
         self.room.becomes(&self.newborn);
         made!(sites.add(here, &mut self.room));
-        self.expands(here.image);
+        self.ends_settling(here.image);
         Turn::Made
     }
 }
