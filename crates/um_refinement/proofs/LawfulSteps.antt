@@ -106,7 +106,7 @@ module _ (f : Fine) (m : State) (e : FineStep) (law : Lawful f m e) (suits : Sui
       by (tends is started) = absurd (false≢true is)
 
   -- who is named by an abort and its like is one of the machine's threads
-  abort-below : (t : ℕ) (who : ThreadIx) (rest : Steps) → Offers m t (Pending.Abort who) rest → who.0 < THREADS
+  pub abort-below : (t : ℕ) (who : ThreadIx) (rest : Steps) → Offers m t (Pending.Abort who) rest → who.0 < THREADS
   abort-below t who rest offers = (offered-proper m t 0 (suits.proper t) (Pending.Abort who) rest offers).0.0
 
   suspend-below : (t : ℕ) (who : ThreadIx) (rest : Steps) → Offers m t (Pending.Suspend who) rest → who.0 < THREADS

@@ -91,7 +91,7 @@ module _ (f : Fine) (m : State) (e : FineStep) (law : Lawful f m e) where
   kept-by : (c : Clock) → clock later ≡ c → IsKept c.marks c.now → IsKept (clock later).marks (clock later).now
   kept-by c is h = subst (λ (c : Clock). IsKept c.marks c.now) (sym is) h
 
-  object-waits : (x : ℕ) → x < ROWS → is_waiting_site (168 + x) ≡ true
+  pub object-waits : (x : ℕ) → x < ROWS → is_waiting_site (168 + x) ≡ true
   object-waits x few = grind (arith, nat_tests, few)
 
   -- the mark that is armed is for a cell in which threads wait, or for a timer
