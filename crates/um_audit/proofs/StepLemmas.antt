@@ -16,11 +16,11 @@ use Rattle.um_machine.specs.Joins.{is_ending}
 use Rattle.um_machine.specs.Limits.{IsSound}
 use Rattle.um_machine.specs.Order.{to_thread}
 use Rattle.um_machine.specs.Run.{Step}
-use Rattle.um_machine.specs.State.{State, thread_at, pair_at, is_started}
+use Rattle.um_machine.specs.State.{State, thread_at, pair_at, is_started, is_waiting}
 use Rattle.um_machine.specs.Table.{act_of}
 use Rattle.um_matrix.specs.Offered.{after_choice, event_of, first_step, is_tending, rest_act, rest_choice, rest_step, row_count, second_step}
 use Rattle.um_matrix.specs.declared.tables.choice.Choice.{Choice}
-use Rattle.um_matrix.proofs.OfferLemmas.{cut-past, late-past, le-or-lt, nobody-more, past-no-step, refused-step, rest-chosen, rest-not, step-first, step-leaves, step-second, step-tends}
+use Rattle.um_matrix.proofs.OfferLemmas.{cut-past, late-past, le-or-lt, nobody-more, past-no-step, refused-step, rest-chosen, rest-not, step-first, step-leaves, step-second, step-tends, still-cut, still-late}
 use Rattle.um_matrix.proofs.OfferLemmas as Offer
 use Rattle.um_matrix.proofs.ReachLemmas.{choice-step}
 use Rattle.um_trace.specs.Names.{thread_text}
@@ -71,6 +71,13 @@ module _ (image : Image) (line : List ℕ) (s : State) (t : ℕ) where
   -- one step is the only one
   pub only-says : (o : Option Pending) (q : Pending) → o ≡ Some q → SaysNotLine image line s t q → (p : Pending) → o ≡ Some p → SaysNotLine image line s t p
   only-says o q e none p f = let same : q ≡ p = (let both : Some q ≡ Some p = sym e ∙ f in cc) in subst (λ (r : Pending). SaysNotLine image line s t r) same none
+
+  -- a wait ends only of one who waits
+  pub no-late : (who : ThreadIx) → is_waiting (thread_at s who.0) ≡ false → SaysNotLine image line s t (Pending.TimeOut who)
+  no-late who still x m is = still-late s t who still x m
+
+  pub no-cut : (who : ThreadIx) → is_waiting (thread_at s who.0) ≡ false → SaysNotLine image line s t (Pending.Cut who)
+  no-cut who still x m is = still-cut s t who still x m
 
   -- nobody past the thread indices waits, or has a pair
   pub all-late : length s.threads ≡ THREADS → ((w : ℕ) → w < THREADS → SaysNotLine image line s t (Pending.TimeOut (to_thread w))) → (who : ThreadIx) → SaysNotLine image line s t (Pending.TimeOut who)

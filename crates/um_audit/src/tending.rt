@@ -82,6 +82,9 @@ fn by_waking_of(
     ensures cuts { IfNone result (SaysNotLine image.now line.now tables.now t (Pending.Cut who)) }
     ensures capacity { vec_capacity room.old ≤ vec_capacity room.new }
 {
+    if !tables.is_waiting(who) {
+        return None;
+    }
     match by_tending(tables, image, t, &Pending::TimeOut { who }, line, room) {
         Some(choice) => Some(choice),
         None => by_tending(tables, image, t, &Pending::Cut { who }, line, room),

@@ -12,13 +12,13 @@ use Rattle.um_base.specs.declared.act.Event.{Event}
 use Rattle.um_base.specs.declared.instr.Instr.{Instr}
 use Rattle.um_machine.specs.declared.pending.Pending.{Pending}
 use Rattle.um_machine.specs.declared.thread.Place.{Place}
-use Rattle.um_machine.specs.State.{State, nobody, vacant, thread_at, object_at, pair_at, is_living, is_started, is_waiting, instruction_at}
+use Rattle.um_machine.specs.State.{State, nobody, vacant, thread_at, object_at, pair_at, is_living, is_started, is_waiting, waiters_in, instruction_at}
 use Rattle.um_machine.specs.Objects.{is_gone}
 use Rattle.um_machine.specs.Order.{Steps, to_thread}
 use Rattle.um_machine.specs.Joins.{is_ending}
 use Rattle.um_machine.specs.Time.{has_come, has_run_out}
 use Rattle.um_machine.specs.Table.{act_of, after}
-use Rattle.um_machine.specs.Run.{Offers, goes, skips_inherit, skips_drops, begins, exits, stops, leaves, tends, may_go, must_stop, waits_at, MayChoose, Step, IsComplete, none_due}
+use Rattle.um_machine.specs.Run.{Offers, goes, skips_inherit, skips_drops, begins, exits, stops, leaves, tends, may_go, must_stop, waits_at, stands_in, MayChoose, Step, IsComplete, none_due}
 use Rattle.um_matrix.specs.Offered.{line_act, line_step, rest_act, rest_choice, rest_step, first_step, second_step, is_skipped, row_count, Says, SaysNot, ChoosesNone, is_tending, tending_of, IsChoice, IsStep, IsNoStep, IsIdle, event_of}
 
 -- Rows.
@@ -331,6 +331,17 @@ pub cut-past : (s : State) (t x : ℕ) (who : ThreadIx) → length s.threads ≡
 cut-past s t x who whole past m =
     let none : (thread_at s who.0).aborted ≡ false = rw (get_or-eq_default s.threads nobody {n = who.0} (omega arith)) refl in
     let yes = (and_parts (thread_at s who.0).aborted (waits_at s who.0 x) m).0 in cc
+
+-- a wait ends only of one who waits
+pub still-late : (s : State) (t : ℕ) (who : ThreadIx) → is_waiting (thread_at s who.0) ≡ false → ChoosesNone s t (Pending.TimeOut who)
+still-late s t who still x m =
+    let waits = (and_parts (has_come s.now (thread_at s who.0).until) (waits_at s who.0 x) m).1 in
+    let yes = (and_parts (is_waiting (thread_at s who.0)) (stands_in who.0 (waiters_in s x)) waits).0 in cc
+
+pub still-cut : (s : State) (t : ℕ) (who : ThreadIx) → is_waiting (thread_at s who.0) ≡ false → ChoosesNone s t (Pending.Cut who)
+still-cut s t who still x m =
+    let waits = (and_parts (thread_at s who.0).aborted (waits_at s who.0 x) m).1 in
+    let yes = (and_parts (is_waiting (thread_at s who.0)) (stands_in who.0 (waiters_in s x)) waits).0 in cc
 
 pub all-late : (s : State) (t : ℕ) → length s.threads ≡ THREADS → ((w : ℕ) → w < THREADS → ChoosesNone s t (Pending.TimeOut (to_thread w))) → (who : ThreadIx) → ChoosesNone s t (Pending.TimeOut who)
 all-late s t whole none who x m = elim (le-or-lt who.0 THREADS) [ inl within ↦ none who.0 within x m | inr past ↦ late-past s t x who whole past m ]

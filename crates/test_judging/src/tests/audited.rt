@@ -19,7 +19,7 @@ use um_trace::{DUMP_ROOM, LINE_ROOM, dump_text, line_text};
 /// The dump of a state.
 fn dump_of(alloc: Global, image: &Image, last: &Matrix<'_>) -> Result<Vec<u8>, Fail> {
     let mut dump = Vec::with_capacity(alloc, DUMP_ROOM)?;
-    dump_text(image, last, &mut dump);
+    dump_text(image, last.tables(), &mut dump);
     Ok(dump)
 }
 

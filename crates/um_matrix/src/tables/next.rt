@@ -8,9 +8,10 @@ use crate::tables::Tables;
 use crate::tables::moves::holders_of;
 use um_base::{Act, Event, ROWS, THREADS, ThreadIx};
 use um_machine::Pending;
+use um_steps::waits::is_waiting;
 
 impl<'a> Tables<'a> {
-    ghost use Rattle.um_machine.specs.{Joins.{is_ending}, Run.{MayChoose, IsComplete}, State.{thread_at, is_started}};
+    ghost use Rattle.um_machine.specs.{Joins.{is_ending}, Run.{MayChoose, IsComplete}, State.{thread_at, is_started, is_waiting}};
     ghost use Rattle.um_matrix.specs.Offered.{IsStep, event_of, first_step, second_step, is_tending, row_count, Says, ChoosesNone, IsIdle};
 
     /// The first row that a step may choose.
@@ -157,6 +158,16 @@ impl<'a> Tables<'a> {
         }
     }
 
+    /// Whether a thread waits: its next step is to resume, and it was told nothing.
+    pub fn is_waiting(&self, who: ThreadIx) -> bool
+        ensures { result ≡ is_waiting (thread_at self.now who.0) }
+    {
+        match self.threads.get(who.0 as usize) {
+            None => false,
+            Some(thread) => is_waiting(thread),
+        }
+    }
+
     /// What a thread says by a step that ends the wait of another.
     fn waking_of(&self, t: usize, who: ThreadIx) -> Option<Act>
         requires thread { t < THREADS }
@@ -165,6 +176,9 @@ impl<'a> Tables<'a> {
         ensures times { IfNone result (ChoosesNone self.now t (Pending.TimeOut who)) }
         ensures cuts { IfNone result (ChoosesNone self.now t (Pending.Cut who)) }
     {
+        if !self.is_waiting(who) {
+            return None;
+        }
         match self.act_with(t, &Pending::TimeOut { who }) {
             Some(act) => Some(act),
             None => match self.act_with(t, &Pending::Cut { who }) {
