@@ -79,7 +79,7 @@ noted-of g s c n of =
     cut-noted zero = refl
     cut-noted (suc k) = refl
 
-noted-run : (g : Fine) (s : State) (c : Context) (n : Option ℕ) → IsRun g s c → IsRun g s (record c { noted = n })
+pub noted-run : (g : Fine) (s : State) (c : Context) (n : Option ℕ) → IsRun g s c → IsRun g s (record c { noted = n })
 noted-run g s c n run = record { index = run.index; started = run.started; of = λ on. noted-of g s c n (run.of on); over = run.over }
 
 abbrev pub is_shown : FineAct → Bool

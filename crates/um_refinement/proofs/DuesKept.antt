@@ -1,7 +1,9 @@
 -- What the machine's steps make of what is due of its threads: only a thread's own permission on a new thread's object and its end make rows due,
 -- and those are rows; each other step leaves what is due, or fewer rows of it.
-use Rattle.um_refinement.proofs.Words.{◌≡◌, ℕ, zero, suc, ◌+◌, ◌≤◌, Bool, true, false, List, [], ◌∷◌, length, Option, Some, None, refl, sym, ap, ◌∙◌, subst, arith, ◌&&◌, not, slice_index_or, slice_set, false≢true, true≢false, length-map, length-set, Event, Leftover, Image, ROWS, STATIC_ROWS, ThreadIx, own_row, Pending, Thread, with_bytes, Steps, Runs, opening, State, no_rows, nobody, thread_at, with_pair, with_thread, Effect, effect, wrote, Next, gone, went, bytes-leave, OfEach, all_other, effects_of, next_of, woken-by, at_set, all-wrote, is_spared, changed-same, held-same}
+use Rattle.um_refinement.proofs.Words.{list_all, ◌≡◌, ℕ, zero, suc, ◌+◌, ◌≤◌, Bool, true, false, List, [], ◌∷◌, length, None, refl, sym, ap, ◌∙◌, subst, arith, ◌&&◌, not, slice_index_or, slice_set, false≢true, true≢false, length-map, length-set, Event, Leftover, Image, ROWS, STATIC_ROWS, ThreadIx, own_row, Pending, Thread, with_bytes, Steps, Runs, opening, State, no_rows, nobody, thread_at, with_pair, with_thread, Effect, effect, wrote, Next, gone, went, bytes-leave, OfEach, all_other, effects_of, next_of, woken-by, at_set, all-wrote, is_spared, changed-same, held-same}
 use Rattle.um_machine.specs.Table as T
+use Rattle.um_machine.specs.Writes.{Effects}
+use Rattle.um_refinement.proofs.Others.{NoTurn}
 use Rattle.um_machine.specs.Writes.{Flag, flagged}
 use Rattle.um_invariants.proofs.Facts.{set-less as flags-less}
 use Rattle.um_refinement.proofs.CallsProper.{none-held}
@@ -126,6 +128,29 @@ module _ (m : State) (t u : ℕ) (ne : t ≡ u → ⊥) where
   -- a step of one thread makes nothing due of another
   pub others-less : (x : ℕ) (q : Pending) (rest : Steps) → IsLess m u (T.after m t x q rest)
   others-less x q rest = dues-kept m t x (IsLess m u) less-keeping (λ y d. d) q rest
+
+-- and so do the steps by which no thread goes on, of any thread
+module _ (m : State) (u : ℕ) where
+  apart : suc u ≡ u → ⊥
+  apart h = omega (arith, h)
+
+  writes-less : (ws : Effects) → OfEach (IsFresh (suc u) (IsLess m u) (less-keeping m (suc u) u apart)) ws → IsLess m u (wrote ws m)
+  writes-less ws fresh = all-wrote (IsLess m u) (IsFresh (suc u) (IsLess m u) (less-keeping m (suc u) u apart)) (effect-kept (suc u) (IsLess m u) (less-keeping m (suc u) u apart)) ws m fresh (λ y d. d)
+
+  plain-less : (ws : Effects) → list_all (λ (w : Bool × Effect). is_spared all_other w.1) ws ≡ true → IsLess m u (wrote ws m)
+  plain-less ws h = writes-less ws (each-of (is_spared all_other) (IsFresh (suc u) (IsLess m u) (less-keeping m (suc u) u apart)) no-start ws h)
+    where
+      no-start : (e : Effect) → is_spared all_other e ≡ true → IsFresh (suc u) (IsLess m u) (less-keeping m (suc u) u apart) e
+      no-start (Effect.starts who thread) h = absurd (true≢false (sym h))
+      no-start e h = tt
+
+  pub beside-less : (t x : ℕ) (q : Pending) (rest : Steps) → NoTurn m t u q → IsLess m u (T.after m t x q rest)
+  beside-less t x (Pending.Cut who) rest h = writes-less (effects_of m t x (Pending.Cut who)) (tt, (tt, tt))
+  beside-less t x (Pending.TimeOut who) rest h = plain-less (effects_of m t x (Pending.TimeOut who)) refl
+  beside-less t x Pending.Expire rest h = plain-less (effects_of m t x Pending.Expire) refl
+  beside-less t x Pending.Tick rest h = plain-less (effects_of m t x Pending.Tick) refl
+  beside-less t x Pending.Left rest h = plain-less (effects_of m t x Pending.Left) refl
+  beside-less t x q rest h = absurd h
 
 -- Only rows are due.
 

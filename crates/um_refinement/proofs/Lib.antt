@@ -107,6 +107,7 @@ pub mod CleanerPart
 pub mod ListVisits
 pub mod ListDues
 pub mod DuesFilled
+pub mod DuesLooked
 pub mod DuesPart
 pub mod EmptiedPart
 pub mod ReplyPart
