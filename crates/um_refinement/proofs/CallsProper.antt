@@ -1,7 +1,7 @@
 -- The steps that are left of each thread's call are proper in every state that a run of a described image reaches: each step of the
 -- access-matrix machine keeps that.
 use Rattle.um_machine.specs.Run.{leaves, stops}
-use Rattle.um_refinement.proofs.Words.{thread_of_addr, ◌<◌, ◌≡◌, ℕ, ◌+◌, Bool, true, false, List, [], ◌∷◌, length, Option, Some, None, refl, sym, ap, ◌∙◌, subst, arith, if◌then◌else◌, nat_lt, slice_index_or, slice_set, true≢false, get_or-set_same, Event, Image, Instr, ROWS, THREADS, Addr, Errno, Kind, Mode, Policy, Want, IsLawful, is_lawful_line, row_at, Pending, Refusal, Thread, Change, Next, changed, checked_way, gone, steps_by, told_way, verdict, Steps, fatal_steps, steps_of, Offers, Runs, begins, exits, goes, skips_drops, skips_inherit, State, instruction_at, is_living, no_rows, nobody, thread_at, with_thread, Ignores, all_other, each-after, next_of, HoldsOfWays, way-left, Call, at_set, call_is, core_of, IsKnown, below_rows, passed, row_is, IsSited, call_of, none_checked, image_move, known_step, step_move, tends, is_tending, IsTrue, false≢true}
+use Rattle.um_refinement.proofs.Words.{thread_of_addr, ◌<◌, ◌≡◌, ℕ, ◌+◌, Bool, true, false, List, [], ◌∷◌, length, Option, Some, None, refl, sym, ap, ◌∙◌, subst, arith, if◌then◌else◌, nat_lt, slice_index_or, slice_set, true≢false, get_or-set_same, Event, Image, Instr, ROWS, THREADS, Addr, Errno, Kind, Mode, Policy, Want, IsLawful, is_lawful_line, row_at, Pending, Refusal, Thread, Change, Next, changed, checked_way, gone, steps_by, told_way, verdict, Steps, fatal_steps, steps_of, Offers, Runs, begins, exits, goes, skips_drops, skips_inherit, State, instruction_at, is_living, no_rows, nobody, thread_at, with_thread, Ignores, all_other, each-after, next_of, HoldsOfWays, way-left, Call, at_set, call_is, core_of, IsKnown, below_rows, passed, row_is, IsSited, call_of, none_checked, image_move, known_step, step_move, tends, false≢true}
 use Rattle.um_machine.specs.Table as T
 use Rattle.um_refinement.proofs.CallSteps.{Bare, Proper, line-lawful, proper-steps, thread-below}
 use Rattle.um_refinement.proofs.StepsLeft.{fatal-left}

@@ -1,5 +1,5 @@
 -- The sites of the cells in which threads wait, by the numbers of the cells: of an object, of the joins, of the futexes.
-use Rattle.um_refinement.proofs.Words.{◌≡◌, ℕ, ◌+◌, ◌-◌, ◌<◌, Bool, true, false, refl, sym, ap, ◌∙◌, subst, arith, ◌==◌, if◌then◌else◌, nat_lt, eqb-false, eqb-true, ltb-true, lt-ltb, ROWS, Site}
+use Rattle.um_refinement.proofs.Words.{◌≡◌, ℕ, ◌+◌, ◌-◌, ◌<◌, Bool, true, false, refl, ap, ◌∙◌, arith, ◌==◌, if◌then◌else◌, nat_lt, eqb-false, ltb-true, lt-ltb, ROWS, Site}
 use Rattle.um_base.specs.declared.limits.TheConstants.{FUTEX_CELL, JOIN_CELL}
 use Rattle.um_fine.specs.Sites.{site_numbered}
 use Rattle.um_refinement.specs.Stops.{cell_site}

@@ -1,5 +1,5 @@
 -- A processor's cleaning of an object is that of the machine, where the relation holds: nobody claims the object, so nobody holds it.
-use Rattle.um_refinement.proofs.Words.{waits, ◌≡◌, ◌≢◌, ◌⊎◌, inl, inr, ℕ, zero, suc, ◌+◌, ◌<◌, ◌≤◌, Bool, true, false, List, [], ◌∷◌, ◌++◌, length, Option, Some, None, refl, sym, ap, ◌∙◌, subst, arith, eq-eqb, ◌==◌, ◌&&◌, ◌||◌, not, if◌then◌else◌, is_some, slice_index_or, list_all, and_from, and_parts, eqb-true, false≢true, not-true, not_from_false, true≢false, Act, Image, ROWS, THREADS, ThreadIx, own_row, thread_of_row, Pending, Life, Thread, to_thread, MayChoose, State, nobody, object_at, pair_at, thread_at, Stage, has, is_dying, is_free, is_last, address_of, act_in, leftover_in, row_in, Context, parked_at, FineStep, Todo, Todos, emptying, CpuMay, by_me, fits, is_dropped, says, Fine, one_if, row, scheduler, Adds, adders, cleaned_pairs, counted, has_steps, is_recycle, of_thread, runs, runs_thread, call_claims, context_claims, AreBlocks, Cleans, is_over, is_reserved, status_of, IsOf, flags_of, occurs, places, runs_on, Rel, MayClean, NoPairsOf, tends}
+use Rattle.um_refinement.proofs.Words.{waits, ◌≡◌, ◌≢◌, ◌⊎◌, inl, inr, ℕ, zero, suc, ◌+◌, ◌<◌, ◌≤◌, Bool, true, false, List, [], ◌∷◌, ◌++◌, length, Option, Some, None, refl, sym, ap, ◌∙◌, subst, arith, eq-eqb, ◌==◌, ◌&&◌, ◌||◌, not, if◌then◌else◌, is_some, slice_index_or, list_all, and_from, and_parts, eqb-true, false≢true, not-true, not_from_false, true≢false, Act, Image, ROWS, THREADS, ThreadIx, own_row, thread_of_row, Pending, Life, Thread, to_thread, MayChoose, State, nobody, object_at, pair_at, thread_at, Stage, has, is_dying, is_free, is_last, address_of, act_in, leftover_in, row_in, Context, parked_at, FineStep, Todo, Todos, emptying, CpuMay, by_me, fits, is_dropped, says, Fine, one_if, row, scheduler, Adds, adders, cleaned_pairs, counted, is_recycle, of_thread, runs, runs_thread, call_claims, context_claims, AreBlocks, Cleans, is_over, is_reserved, status_of, IsOf, flags_of, occurs, places, runs_on, Rel, MayClean, NoPairsOf, tends}
 use Rattle.um_machine.specs.Objects as Plain
 use Rattle.um_machine.specs.Table as T
 use Rattle.um_fine.specs.Joins.{asleep_at}

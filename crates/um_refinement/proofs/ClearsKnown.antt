@@ -1,6 +1,6 @@
 -- A mark that is cleared next is of a row that isn't free: the call holds the object, as when it takes a creation back; it is the thread's own,
 -- which that one claims until then; or it is the stack, which is one of the image's objects.
-use Rattle.um_refinement.proofs.Words.{as_thread, own_part, runs, ◌≡◌, ℕ, ◌<◌, Bool, true, false, [], ◌∷◌, length, Some, refl, sym, ap, ◌∙◌, subst, arith, eq-eqb, ◌==◌, ◌&&◌, slice_index_or, unwrap_or, true≢false, Image, ROWS, THREADS, Addr, own_row, row_at, thread_of_addr, Pending, Thread, Steps, is_empty, State, thread_at, claims, Call, call_at, call_is, core_of, status_is, below_rows, is_free, row_named, Context, Todo, Todos, Fine, one_if, row, has_steps, Fits, IsOffered, Rel, IsOf, IsClearing, Shaped}
+use Rattle.um_refinement.proofs.Words.{as_thread, own_part, runs, ◌≡◌, ℕ, ◌<◌, Bool, true, false, [], ◌∷◌, length, Some, refl, sym, ap, ◌∙◌, subst, arith, eq-eqb, ◌==◌, ◌&&◌, slice_index_or, unwrap_or, true≢false, Image, ROWS, THREADS, Addr, own_row, row_at, thread_of_addr, Pending, Thread, Steps, is_empty, State, thread_at, claims, Call, call_at, call_is, core_of, status_is, below_rows, is_free, row_named, Context, Todo, Todos, Fine, one_if, row, Fits, IsOffered, Rel, IsOf, IsClearing, Shaped}
 use Rattle.um_machine.specs.Objects as Plain
 use Rattle.um_refinement.specs.Offers as O
 use Rattle.um_refinement.proofs.Bounds.{AreBounded}

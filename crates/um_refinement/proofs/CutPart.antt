@@ -1,18 +1,17 @@
 -- That a thread was cut and isn't taken yet stands in one place at most, and then the machine has nothing left of it but that it is killed, after every
 -- lawful step.
-use Rattle.um_refinement.proofs.Words.{◌≡◌, ◌⊎◌, inl, inr, ℕ, zero, suc, ◌+◌, ◌<◌, ◌≤◌, Bool, true, false, List, [], ◌∷◌, length, Option, Some, None, refl, sym, ap, ◌∙◌, subst, arith, ◌==◌, eq-eqb, eqb-false, eqb-true, IsTrue, if◌then◌else◌, is_some, not, and_parts, false≢true, true≢false, THREADS, Context, Thread, ThreadIx, Told, Exchange, FineStep, Pending, Steps, State, thread_at, to_thread, waits, Todo, Todos, Fits, Fine, one_if}
+use Rattle.um_refinement.proofs.Words.{◌≡◌, ◌⊎◌, inl, inr, ℕ, zero, suc, ◌<◌, ◌≤◌, Bool, true, false, [], ◌∷◌, length, Option, Some, None, refl, sym, ap, ◌∙◌, subst, arith, ◌==◌, eq-eqb, eqb-false, eqb-true, if◌then◌else◌, is_some, not, and_parts, false≢true, THREADS, Thread, Told, FineStep, Pending, Steps, State, thread_at, to_thread, waits, Todo, Todos, Fits, Fine, one_if}
 use Rattle.um_machine.specs.Run.{stands_in, waits_at}
 use Rattle.um_machine.specs.State.{is_to_resume, is_waiting, waiters_in}
 use Rattle.um_machine.specs.Table as T
 use Rattle.um_machine.specs.Writes.{cut}
 use Rattle.um_fine.specs.Answers.{is_void}
-use Rattle.um_fine.specs.Scheduler.{is_cut}
 use Rattle.um_refinement.specs.Stops.{CutIs}
 use Rattle.um_refinement.specs.Threads.{ToldIs, cutters}
 use Rattle.um_refinement.proofs.CallsKnown.{starts-known}
 use Rattle.um_refinement.proofs.CuttersKept.{cutters-idle, cutters-on, cutters-other, cutters-taken}
 use Rattle.um_refinement.proofs.Erased.{around}
-use Rattle.um_refinement.proofs.Leaves.{Lawful, Leaves, beside, cleans, drops, event, mine, nothing, passes, recycles, resumes}
+use Rattle.um_refinement.proofs.Leaves.{Lawful, Leaves, beside, cleans, drops, event, nothing, passes, recycles, resumes}
 use Rattle.um_refinement.proofs.Offered.{Shows, not-cut, shown-offers, uncut}
 use Rattle.um_refinement.proofs.Others.{starts_other}
 use Rattle.um_refinement.proofs.PartsElsewhere.{Apart, CutsNot, cuts-or-not, cutters-same, stays}

@@ -1,6 +1,6 @@
 -- A processor's drop of a permission is that step of the machine, where the relation holds and permissions are of live objects alone: a
 -- release or a revocation, and what a thread's end drops.
-use Rattle.um_refinement.proofs.Words.{waits, ◌≡◌, ◌⊎◌, inl, inr, ℕ, zero, suc, ◌<◌, ◌≤◌, Bool, true, false, List, [], ◌∷◌, length, refl, sym, ap, ◌∙◌, subst, arith, eq-or-lt_of_le, ◌&&◌, not, nat_le, if◌then◌else◌, slice_index_or, slice_set, take, list_all, and_from, and_parts, false≢true, not_from_false, true≢false, get_or-set_same, Act, Leftover, ROWS, STATIC_ROWS, Addr, ThreadIx, Pending, Thread, Steps, to_thread, goes, State, object_at, pair_at, thread_at, with_pair, FineAct, Stage, has, is_free, is_last, is_live, left_of, address_of, row_named, act_in, leftover_in, row_in, FineStep, Site, SiteState, site_answers, Todo, Todos, by_me, fits, is_dropped, shows, Fine, row, has_steps, visited, recyclers, vacaters, is_visiting, Drops, Fits, Rel}
+use Rattle.um_refinement.proofs.Words.{waits, ◌≡◌, ◌⊎◌, inl, inr, ℕ, zero, suc, ◌<◌, ◌≤◌, Bool, true, false, List, [], ◌∷◌, length, refl, sym, ap, ◌∙◌, subst, arith, eq-or-lt_of_le, ◌&&◌, not, nat_le, if◌then◌else◌, slice_index_or, slice_set, take, list_all, and_from, and_parts, false≢true, not_from_false, true≢false, get_or-set_same, Act, Leftover, ROWS, STATIC_ROWS, Addr, ThreadIx, Pending, Thread, Steps, to_thread, goes, State, object_at, pair_at, thread_at, with_pair, FineAct, Stage, has, is_free, is_last, is_live, left_of, address_of, row_named, act_in, leftover_in, row_in, FineStep, Site, SiteState, site_answers, Todo, Todos, by_me, fits, is_dropped, shows, Fine, row, visited, recyclers, vacaters, is_visiting, Drops, Fits, Rel}
 use Rattle.um_machine.specs.Objects as Plain
 use Rattle.um_machine.specs.Table as T
 use Rattle.um_refinement.proofs.StepsLeft.{drops-on}

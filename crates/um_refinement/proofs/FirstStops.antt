@@ -1,6 +1,5 @@
 -- At the opening nobody is noted, cut, looked for or asleep, and no mark is there; who lives may be joined.
-use Rattle.um_refinement.proofs.Words.{◌≡◌, ◌≢◌, ◌⊎◌, inl, inr, ℕ, zero, suc, ◌+◌, ◌<◌, ◌≤◌, Bool, true, false, List, [], ◌∷◌, length, Option, Some, None, refl, sym, ap, ◌∙◌, subst, arith, IsTrue, is_some, not, slice_index_or, false≢true, true≢false, ROWS, THREADS, Image, Object, Thread, Life, Pending, Steps, State, object_at, thread_at, vacant, nobody, own_row, opening, Context, parked_at, scheduler, Todo, Todos, Fine}
-use Rattle.um_machine.specs.declared.contents.Contents.TheVariants as Contents
+use Rattle.um_refinement.proofs.Words.{◌≡◌, ◌⊎◌, inl, inr, ℕ, zero, suc, ◌+◌, ◌<◌, ◌≤◌, Bool, true, false, List, [], ◌∷◌, length, None, refl, sym, ap, ◌∙◌, arith, IsTrue, is_some, not, slice_index_or, false≢true, true≢false, THREADS, Image, Thread, Pending, Steps, State, object_at, thread_at, own_row, opening, Context, Todo, Todos, Fine}
 use Rattle.um_machine.specs.State.{is_living, is_started}
 use Rattle.um_fine.specs.Joins.{is_shut}
 use Rattle.um_fine.specs.Opening.{indexed}
@@ -89,7 +88,7 @@ module _ (image : Image) (cpus : ℕ) where
   timeout-first t = record { comes = λ c d few h until. absurd (none-waits t c h); until = λ c few h. absurd (none-waits t c h) }
 
   pub expiry-first : (x : ℕ) → ExpiryComes f m x
-  expiry-first x = record { comes = λ d h. absurd (false≢true (sym (opening-calm image x).stopped ∙ ap is_running h)) }
+  expiry-first x = record { comes = λ d even h. absurd (false≢true (sym (opening-calm image x).stopped ∙ ap is_running h)) }
 
   -- an index is shut where its object isn't marked
   shut-is : (t : ℕ) → t < THREADS → is_shut (joins f) t ≡ not (object_at m (own_row image t)).init

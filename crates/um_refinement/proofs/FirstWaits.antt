@@ -1,11 +1,9 @@
 -- At the opening nobody waits, no deadline is armed, and no timer runs. Where an image has no boot entry its runs have no event: no thread is ever
 -- started.
-use Rattle.um_refinement.proofs.Words.{◌≡◌, ◌⊎◌, inl, inr, ℕ, zero, suc, ◌+◌, ◌<◌, ◌≤◌, Bool, true, false, List, [], ◌∷◌, length, replicate, Option, Some, None, refl, sym, ap, ◌∙◌, subst, arith, ◌==◌, IsTrue, if◌then◌else◌, is_some, nat_le, slice_index_or, false≢true, true≢false, ROWS, THREADS, Image, Boot, ObjectDef, Waiter, Event, Object, Thread, Pending, Steps, Offers, begins, exits, goes, skips_drops, skips_inherit, Runs, State, nobody, object_at, thread_at, vacant, blank, booted, loaded, objects_from, opening, setup_contents, effects_of, next_of, shared-went, wrote, image-wrote}
+use Rattle.um_refinement.proofs.Words.{◌≡◌, ◌⊎◌, inl, inr, ℕ, zero, suc, ◌<◌, ◌≤◌, Bool, true, false, List, [], ◌∷◌, length, refl, sym, ap, ◌∙◌, subst, arith, ◌==◌, IsTrue, if◌then◌else◌, slice_index_or, false≢true, true≢false, THREADS, Image, Boot, Event, Object, Thread, Pending, Steps, Offers, begins, exits, goes, skips_drops, skips_inherit, Runs, State, nobody, object_at, thread_at, vacant, blank, booted, loaded, objects_from, opening, setup_contents, effects_of, next_of, shared-went, wrote, image-wrote}
 use Rattle.um_base.specs.declared.limits.TheConstants.{FUTEX_CELL, JOIN_CELL}
 use Rattle.um_base.specs.declared.image.Setup.{Setup}
-use Rattle.um_base.specs.declared.image.Setup.TheVariants as Setup
 use Rattle.um_machine.specs.declared.contents.Contents.{Contents}
-use Rattle.um_machine.specs.declared.contents.Contents.TheVariants as Contents
 use Rattle.um_machine.specs.State.{is_living, is_started, waiters_in}
 use Rattle.um_machine.specs.Table as T
 use Rattle.um_machine.specs.Joins.{is_ending}

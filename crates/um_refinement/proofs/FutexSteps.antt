@@ -1,6 +1,6 @@
 -- A wait on a futex and a wake are those steps of the machine, where the relation holds: the cell of memory has the machine's bytes and those who
 -- wait, and the processor's table says what its thread may read. Both leave the same of memory and of who waits.
-use Rattle.um_refinement.proofs.Words.{Effect, Next, State, effects_of, next_of, shared-went, went, work_change, wrote, Context, ◌≡◌, ℕ, ◌<◌, Bool, true, false, List, [], ◌∷◌, ◌++◌, length, map, Option, Some, None, refl, sym, ap, ◌∙◌, subst, ◌==◌, ◌||◌, not, filter, if◌then◌else◌, list_any, Act, Answer, Errno, Told, Waiter, Ask, Image, Addr, Reply, ThreadIx, Pending, Thread, Steps, to_thread, allowed, bytes_at, le_value, with_thread, woken-by, thread_at, FineAct, More, act_in, answer_in, woken_in, caller_in, Exchange, FineStep, Site, Bytes, read, memory_after, Cell, SiteState, site_answers, Todos, allows, shows, Fine, bytes, behind_shown, in_order, MemoryIs}
+use Rattle.um_refinement.proofs.Words.{Effect, Next, State, effects_of, next_of, shared-went, went, work_change, wrote, Context, ◌≡◌, ℕ, ◌<◌, Bool, List, [], ◌∷◌, ◌++◌, length, Option, Some, None, refl, sym, ap, ◌∙◌, subst, ◌==◌, ◌||◌, not, filter, list_any, Act, Answer, Told, Waiter, Ask, Image, Addr, Reply, ThreadIx, Pending, Thread, Steps, to_thread, allowed, bytes_at, le_value, woken-by, thread_at, More, act_in, answer_in, woken_in, caller_in, FineStep, Site, Bytes, read, memory_after, SiteState, site_answers, Todos, allows, shows, Fine, bytes, MemoryIs}
 use Rattle.um_base.specs.declared.limits.TheConstants.{FUTEX_CELL}
 use Rattle.um_base.specs.declared.names.Access.TheVariants as Access
 use Rattle.um_base.specs.declared.names.Timeout.{Timeout}
@@ -10,8 +10,7 @@ use Rattle.um_machine.specs.Services.{still_waiting, without}
 use Rattle.um_machine.specs.State.{with_waiters}
 use Rattle.um_machine.specs.Table as T
 use Rattle.um_machine.specs.Writes.{only, says_wait}
-use Rattle.um_fine.specs.Answers.{noted_in}
-use Rattle.um_fine.specs.Asks.{note_number, seeker}
+use Rattle.um_fine.specs.Asks.{seeker}
 use Rattle.um_fine.specs.Memory.{refusal_of, still_there, wait_answer, wake_says, woken_on}
 use Rattle.um_fine.specs.Places.{armed_for, settling}
 use Rattle.um_refinement.specs.Frames.{IsWaitOver, nothing, settled}

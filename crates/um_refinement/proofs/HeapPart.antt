@@ -1,5 +1,5 @@
 -- The heap has the machine's pools, costs and free addresses after every lawful step.
-use Rattle.um_refinement.proofs.Words.{◌≡◌, inl, inr, ℕ, zero, suc, ◌+◌, ◌<◌, ◌≤◌, Bool, true, false, List, ◌∷◌, length, Option, Some, None, refl, sym, ap, ◌∙◌, subst, arith, eq-eqb, ◌==◌, ◌&&◌, not, if◌then◌else◌, nat_le, slice_index_or, slice_set, unwrap_or, and_parts, eqb-false, eqb-true, leb-true, ltb-true, get_or-set_other, get_or-set_same, length-set, Act, Event, Image, ROWS, STATIC_ROWS, Kind, addr_of, own_row, Object, Pending, Thread, Steps, to_addr, to_thread, MayChoose, State, object_at, thread_at, vacant, with_object, IsRow, is_dying, FineAct, More, address_of, row_named, act_in, charge_in, moves, site_at, Heap, Todo, Todos, FineStep, Site, Fine, heap, row, counted, is_recycle, is_wipe, AreBlocks, HeapIs, and-false, Cost, le_is, fits_in, reserved_in, cost_at, heap_after, paid, ne_eqb}
+use Rattle.um_refinement.proofs.Words.{◌≡◌, inl, inr, ℕ, zero, suc, ◌+◌, ◌<◌, ◌≤◌, Bool, true, false, List, ◌∷◌, length, Option, Some, None, refl, sym, ap, ◌∙◌, subst, arith, eq-eqb, ◌==◌, ◌&&◌, not, if◌then◌else◌, nat_le, slice_index_or, slice_set, unwrap_or, and_parts, eqb-false, eqb-true, leb-true, ltb-true, get_or-set_other, get_or-set_same, length-set, Act, Event, Image, ROWS, STATIC_ROWS, Kind, addr_of, own_row, Object, Pending, Thread, Steps, to_addr, to_thread, MayChoose, State, object_at, thread_at, vacant, with_object, IsRow, is_dying, FineAct, More, address_of, row_named, act_in, charge_in, moves, Heap, Todo, Todos, FineStep, Site, Fine, heap, row, counted, is_recycle, is_wipe, AreBlocks, HeapIs, and-false, Cost, le_is, fits_in, reserved_in, cost_at, heap_after, paid, ne_eqb}
 use Rattle.um_machine.specs.declared.object.Status.TheVariants as Status
 use Rattle.um_machine.specs.Objects as Plain
 use Rattle.um_machine.specs.Table as T
@@ -10,7 +10,7 @@ use Rattle.um_refinement.proofs.ListCounts.{cleans-none}
 use Rattle.um_refinement.proofs.MemorySteps.{part-total}
 use Rattle.um_refinement.proofs.ObjectsKept.{NoBirths, NoStatuses, born-reserved, drop-free, gone-dynamic, gone-row, lasting-kept, paired-live, row-again, set-kept, status-kept}
 use Rattle.um_fine.specs.Asks.{moves_show, site_by}
-use Rattle.um_refinement.proofs.Offered.{IsStep, Shows, moved-made, own-part, own-same, shown-offers, site-is}
+use Rattle.um_refinement.proofs.Offered.{IsStep, Shows, moved-made, own-same, shown-offers, site-is}
 use Rattle.um_refinement.proofs.PoolsKept.{heap-put, heap-still, paid-same, pools-same, unbuffer-pools, heap-untouched}
 use Rattle.um_refinement.proofs.Quiet.{heap-quiet}
 use Rattle.um_refinement.proofs.WordsKept.{IsShown}

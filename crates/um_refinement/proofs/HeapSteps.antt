@@ -1,6 +1,6 @@
 -- A processor's event on the heap is that step of the machine, where the relation holds: a buffer that is taken, and an address that is
 -- reserved, the least one that is free for the kind.
-use Rattle.um_refinement.proofs.Words.{◌≡◌, ◌⊎◌, inl, inr, ne_eqb, ℕ, zero, suc, ◌+◌, ◌<◌, ◌≤◌, Bool, true, false, Option, Some, None, refl, sym, ap, ◌∙◌, subst, arith, eq-or-lt_of_le, ◌==◌, ◌&&◌, nat_le, nat_lt, IsTrue, if◌then◌else◌, is_some, unwrap_or, and_parts, false≢true, leb-true, lt-ltb, ltb-true, Act, ROWS, STATIC_ROWS, Kind, Pending, Thread, Steps, MayChoose, State, object_at, thread_at, Image, address_of, act_in, charge_in, Exchange, FineStep, Site, Heap, Cell, SiteState, is_sort, site_answers, Todos, moves, shows, Fine, heap, heap_state, Rel, dynamic_kind, is_free_for, address_or, fits_in, reserved_in, can_pay, is_open, least_open}
+use Rattle.um_refinement.proofs.Words.{◌≡◌, ◌⊎◌, inl, inr, ne_eqb, ℕ, zero, suc, ◌+◌, ◌<◌, ◌≤◌, Bool, true, false, Option, Some, None, refl, sym, ap, ◌∙◌, subst, arith, eq-or-lt_of_le, ◌==◌, ◌&&◌, nat_le, nat_lt, IsTrue, if◌then◌else◌, is_some, unwrap_or, and_parts, false≢true, leb-true, lt-ltb, ltb-true, Act, ROWS, STATIC_ROWS, Kind, Pending, Thread, Steps, MayChoose, State, object_at, thread_at, Image, address_of, act_in, charge_in, Exchange, FineStep, Site, Heap, Cell, SiteState, is_sort, site_answers, Todos, shows, Fine, heap, heap_state, Rel, dynamic_kind, is_free_for, address_or, fits_in, reserved_in, can_pay, is_open, least_open}
 use Rattle.um_machine.specs.Objects.{is_free, kind_number}
 use Rattle.um_machine.specs.Table as T
 use Rattle.um_refinement.proofs.Offered.{IsStep, Shows, act-is, machine-step, moved-made, own-same, says-at, site-is}

@@ -1,5 +1,5 @@
 -- The cell of the joins has the machine's joins, and a place for each thread index, after every lawful step.
-use Rattle.um_refinement.proofs.Words.{◌+◌, bytes-leave, allows, site_answers, ◌≡◌, ℕ, ◌<◌, Bool, true, false, cond, List, [], ◌∷◌, ◌++◌, length, Option, Some, None, refl, sym, ap, ◌∙◌, subst, arith, ◌==◌, ◌||◌, not, not-true, filter, if◌then◌else◌, list_any, length-set, false≢true, true≢false, eqb-false, eqb-true, same-sound, slice_set, effect, THREADS, ROWS, Act, Answer, Ask, Effect, Event, Waiter, Image, Thread, ThreadIx, Told, Exchange, FineAct, FineStep, More, Unseen, Pending, Steps, State, object_at, thread_at, to_thread, act_in, answer_in, caller_in, woken-by, wrote, work_change, went, Next, Site, SiteState, Todo, Todos, Processor, says_step, shows, says_show, same_site, s_next, Context, Fine, Adds}
+use Rattle.um_refinement.proofs.Words.{◌+◌, bytes-leave, allows, site_answers, ◌≡◌, ℕ, ◌<◌, Bool, true, false, List, [], ◌∷◌, ◌++◌, length, None, refl, sym, ap, ◌∙◌, subst, ◌==◌, ◌||◌, not, not-true, filter, if◌then◌else◌, list_any, length-set, true≢false, same-sound, effect, ROWS, Act, Answer, Ask, Effect, Event, Waiter, Image, ThreadIx, Exchange, FineAct, FineStep, More, Unseen, Pending, Steps, State, object_at, thread_at, to_thread, act_in, answer_in, caller_in, woken-by, wrote, work_change, went, Next, Site, SiteState, Todo, Todos, Processor, says_step, same_site, Fine}
 use Rattle.um_base.specs.declared.limits.TheConstants.{FUTEX_CELL, JOIN_CELL}
 use Rattle.um_base.specs.declared.names.Access.TheVariants as Access
 use Rattle.um_base.specs.declared.names.Timeout.{Timeout}
@@ -11,7 +11,7 @@ use Rattle.um_machine.specs.Table as T
 use Rattle.um_machine.specs.Time.{told_late}
 use Rattle.um_machine.specs.Writes.{only, says_wait}
 use Rattle.um_words.specs.declared.fine.Mark.{Mark}
-use Rattle.um_fine.specs.Asks.{seeker, site_by}
+use Rattle.um_fine.specs.Asks.{site_by}
 use Rattle.um_fine.specs.Joins.{Joins, all_joined, is_joined, join_after, join_after_act, join_after_unseen, left_or_shut}
 use Rattle.um_fine.specs.Sites.{site_numbered}
 use Rattle.um_refinement.specs.Fine.{joins}
@@ -20,7 +20,7 @@ use Rattle.um_refinement.proofs.CellSites.{site-of-cell, waiting_cell}
 use Rattle.um_refinement.proofs.Erased.{around}
 use Rattle.um_refinement.proofs.Kept.{joins-sort}
 use Rattle.um_refinement.proofs.Leaves.{Beside, Lawful, Leaves, acting, beside as beside_it, cleans, cuts, drops, event, expires, leaves as leaves_it, mine, nothing, passes, recycles, resumes, ticks, times_out}
-use Rattle.um_refinement.proofs.Offered.{IsStep, Shows, act-is, either-act, moved-made, own-same, site-is}
+use Rattle.um_refinement.proofs.Offered.{IsStep, Shows, either-act, moved-made, own-same, site-is}
 use Rattle.um_refinement.proofs.ParkedPart.{joins-else, joins-later}
 use Rattle.um_refinement.proofs.SchedulerSteps.{made-at}
 use Rattle.um_refinement.proofs.WordsKept.{IsShown}

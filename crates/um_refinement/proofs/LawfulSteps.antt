@@ -1,6 +1,6 @@
 -- Each lawful step is one of the machine, or leaves it: given a few facts of the machine's state, what it makes of that state
 -- is one of the kinds of `Leaves`.
-use Rattle.um_refinement.proofs.Words.{opening, is_some, Act, Addr, Amount, Ask, Bool, Cell, Exchange, Fine, FineAct, FineStep, Fits, Guarded, Image, IsStatic, IsTrue, List, MayChoose, None, Offers, Pending, ROWS, Site, SiteState, Some, State, Steps, THREADS, ThreadIs, ThreadIx, Todo, Todos, Unseen, [], act_in, address_of, and_from, and_parts, ap, behind_birth, by_me, bytes, call_is, eq-eqb, false, false≢true, goes, if◌then◌else◌, inl, inr, is_visit, is_word_read, leftover_in, length, list_all, list_any, ltb-true, names_row, nat_lt, not, own_row, refl, row_named, says_idle, says_show, shows, site_takes, skips_drops, skips_inherit, slice_index_or, subst, sym, tends, thread_at, to_thread, true, true≢false, waits, woken_in, ℕ, ◌&&◌, ◌<◌, ◌==◌, ◌∙◌, ◌∷◌, ◌≡◌}
+use Rattle.um_refinement.proofs.Words.{opening, is_some, Act, Addr, Amount, Ask, Bool, Cell, Exchange, Fine, FineAct, FineStep, Fits, Guarded, Image, IsStatic, IsTrue, List, MayChoose, None, Offers, Pending, ROWS, Site, SiteState, Some, State, Steps, THREADS, ThreadIs, ThreadIx, Todo, Todos, Unseen, [], act_in, address_of, and_from, and_parts, ap, behind_birth, by_me, bytes, call_is, eq-eqb, false, false≢true, goes, if◌then◌else◌, inl, inr, is_visit, is_word_read, leftover_in, length, list_all, list_any, ltb-true, names_row, nat_lt, not, own_row, refl, row_named, says_show, shows, site_takes, skips_drops, skips_inherit, slice_index_or, subst, sym, tends, thread_at, to_thread, true, true≢false, waits, woken_in, ℕ, ◌&&◌, ◌<◌, ◌==◌, ◌∙◌, ◌∷◌, ◌≡◌}
 use Rattle.um_machine.specs.Joins as Plain
 use Rattle.um_machine.specs.State.{is_waiting, object_at, waiters_in}
 use Rattle.um_machine.specs.Table as T

@@ -1,11 +1,10 @@
 -- That an end is told to those who wait for it is that step of the machine, where the relation holds: it stands on the list of a thread that has ended,
 -- right before the clearing of its own object; and where the own object is cleared nobody waits any more.
-use Rattle.um_refinement.proofs.Words.{IsRun, Reply, Waiter, and_from, filter, in_order, map, ◌≡◌, ◌⊎◌, inl, inr, ℕ, ◌<◌, Bool, true, false, [], ◌∷◌, Option, Some, None, refl, sym, ap, ◌∙◌, subst, ◌==◌, ◌&&◌, not, IsTrue, if◌then◌else◌, list_any, eq-eqb, eqb-true, false≢true, true≢false, and_parts, unwrap_or, THREADS, Act, Addr, Image, own_row, row_at, thread_of_addr, thread_of_row, Life, Pending, Steps, Thread, is_living, is_started, to_thread, MayChoose, Offers, State, thread_at, Call, call_at, call_is, core_of, claims, IsClearing, Shaped, FineAct, Unseen, SiteMay, CpuMay, Site, SiteState, site_answers, act_in, woken_in, by_me, says, is_empty, row_named, Context, IsOffered, IsOf, is_over, runs, FineStep, Exchange, Todo, Todos, Fine, Rel, Fits, AreFramed, as_thread, own_part}
+use Rattle.um_refinement.proofs.Words.{IsRun, Reply, Waiter, and_from, filter, in_order, map, ◌≡◌, ℕ, ◌<◌, Bool, true, false, [], ◌∷◌, refl, sym, ap, ◌∙◌, subst, ◌==◌, IsTrue, if◌then◌else◌, list_any, eq-eqb, eqb-true, false≢true, true≢false, unwrap_or, Act, Addr, own_row, thread_of_addr, thread_of_row, Life, Pending, Steps, Thread, is_living, is_started, to_thread, MayChoose, State, thread_at, Call, call_at, call_is, core_of, claims, IsClearing, Shaped, FineAct, Unseen, SiteMay, CpuMay, Site, SiteState, site_answers, act_in, woken_in, by_me, is_empty, row_named, Context, IsOffered, IsOf, FineStep, Todo, Todos, Fine, Rel, Fits, AreFramed}
 use Rattle.um_machine.specs.Joins as Plain
 use Rattle.um_machine.specs.Run.{leaves}
 use Rattle.um_machine.specs.Services.{told}
 use Rattle.um_machine.specs.Table as T
-use Rattle.um_fine.specs.Answers.{is_shut_act}
 use Rattle.um_fine.specs.Asks.{site_by}
 use Rattle.um_fine.specs.Joins.{all_joined, is_joined, left_or_shut}
 use Rattle.um_refinement.specs.Fine.{joins}

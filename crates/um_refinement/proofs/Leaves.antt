@@ -2,7 +2,7 @@
 -- one of a thread's instruction, a resumed call, a visit that finds a permission, the end of a cleaning, or
 -- a step beside the instructions.
 use Rattle.um_refinement.proofs.Words.{◌≡◌, ℕ, ◌<◌, [], ◌∷◌, Some, Act, Told, ROWS, Pending, Steps, to_thread, MayChoose, State, FineAct, More, Unseen, address_of, act_in, leftover_in, by_me, Context, ByOneOf, Todo, Todos, Processor, SiteMay, Exchange, FineStep, Fine, Rel}
-use Rattle.std.specs.Prelude.{◌+◌, IsTrue, true}
+use Rattle.std.specs.Prelude.{◌+◌, IsTrue}
 use Rattle.um_base.specs.declared.names.Row.{Row}
 use Rattle.um_base.specs.declared.names.ThreadIx.{ThreadIx}
 use Rattle.um_machine.specs.State.{is_started, thread_at}

@@ -1,11 +1,11 @@
 -- Looks are made in cells in which threads wait, after every lawful step.
-use Rattle.um_refinement.proofs.Words.{Event, More, Unseen, by_me, says_show, true≢false, unwrap_or, ◌≡◌, ℕ, ◌+◌, ◌<◌, Bool, true, false, cond, List, [], ◌∷◌, ◌++◌, Option, Some, None, refl, sym, ap, ◌∙◌, subst, ◌==◌, ◌&&◌, ◌||◌, not, and_from, and_parts, if◌then◌else◌, nat_lt, list_all, ltb-true, eqb-true, false≢true, ROWS, THREADS, Act, Addr, Answer, Ask, Exchange, FineAct, FineStep, Image, Pending, Steps, Offers, State, Thread, ThreadIx, ThreadWord, Told, Context, Site, SiteState, Todo, Todos, Processor, act_in, answer_in, after_show, behind_step, cleaning_of, begins_cleaning, context_in, continues, dropped_at, end_calls, filled_up, fine_steps, goes_on_by, is_visit, is_word_read, next_steps, end_of_turn, outcome_in, own_row, p_next, row_named, row_number, s_next, site_after, shows, thread_after, thread_in, turn_of, wakes, with_cleaned, with_cleaning, cleaning, word, Fine}
+use Rattle.um_refinement.proofs.Words.{Event, More, Unseen, by_me, says_show, true≢false, unwrap_or, ◌≡◌, ℕ, ◌+◌, ◌<◌, Bool, true, false, cond, List, [], ◌∷◌, ◌++◌, Option, Some, None, refl, sym, ap, ◌∙◌, subst, ◌==◌, ◌&&◌, not, and_from, and_parts, if◌then◌else◌, nat_lt, list_all, ltb-true, eqb-true, false≢true, ROWS, THREADS, Act, Answer, Exchange, FineAct, FineStep, Image, Pending, Steps, Offers, State, ThreadIx, ThreadWord, Told, Context, Site, SiteState, Todo, Todos, Processor, act_in, answer_in, after_show, behind_step, cleaning_of, begins_cleaning, context_in, continues, dropped_at, end_calls, filled_up, fine_steps, goes_on_by, is_visit, is_word_read, next_steps, end_of_turn, outcome_in, own_row, p_next, row_named, row_number, s_next, site_after, shows, thread_after, thread_in, wakes, with_cleaned, word, Fine}
 use Rattle.um_words.specs.declared.fine.Mark.{Mark}
 use Rattle.um_machine.specs.State.{is_living}
 use Rattle.um_words.specs.Threads.{is_awake}
 use Rattle.um_fine.specs.Answers.{is_done_in, is_killed, is_void, woken_in}
 use Rattle.um_fine.specs.Follows.{looks_behind, looks_for, rereads, shown_step, told_all, told_marked, waits_behind}
-use Rattle.um_fine.specs.Places.{handling, if_patient, is_patient, may_wait, noted_cell, put_away}
+use Rattle.um_fine.specs.Places.{if_patient, is_patient, may_wait, noted_cell, put_away}
 use Rattle.um_fine.specs.Sites.{word_of}
 use Rattle.um_refinement.specs.Stops.{LookThere, is_waiting_site, looks_well}
 use Rattle.um_refinement.proofs.Erased.{around}

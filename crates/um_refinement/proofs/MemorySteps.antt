@@ -1,5 +1,5 @@
 -- A processor's access to memory is that step of the machine, where the relation holds: its region table has the regions of its thread.
-use Rattle.um_refinement.proofs.Words.{access_over, ◌≡◌, ℕ, zero, suc, ◌+◌, ◌<◌, ◌≤◌, Bool, true, false, [], ◌∷◌, length, None, refl, sym, ap, ◌∙◌, subst, arith, ◌⊎◌, inl, inr, eq-eqb, eq-or-lt_of_le, ◌==◌, ◌&&◌, ◌||◌, not, IsTrue, if◌then◌else◌, list_any, eqb-false, eqb-true, false≢true, Act, Image, Access, Addr, Mode, Pending, Thread, allowed, bytes_at, Steps, to_thread, State, is_user, thread_at, FineAct, More, act_in, FineStep, Site, read, Cell, SiteState, is_sort, site_answers, Todo, Todos, allows, Fine, bytes, bytes_state, domain, one_if, total, has_claimed, has_held, is_let_go, is_hold, is_own_claim, is_own_done, is_region_load, moves_to, reads, regions, le_value, partitions_of, regions_of, value_in, has_loaded}
+use Rattle.um_refinement.proofs.Words.{access_over, ◌≡◌, ℕ, zero, suc, ◌+◌, ◌<◌, ◌≤◌, Bool, true, false, ◌∷◌, length, refl, sym, ap, ◌∙◌, subst, arith, ◌⊎◌, inl, inr, eq-eqb, eq-or-lt_of_le, ◌==◌, ◌&&◌, ◌||◌, not, IsTrue, if◌then◌else◌, list_any, eqb-false, eqb-true, false≢true, Act, Image, Access, Addr, Mode, Pending, Thread, allowed, bytes_at, Steps, to_thread, State, is_user, thread_at, FineAct, More, act_in, FineStep, Site, read, Cell, SiteState, is_sort, site_answers, Todo, Todos, allows, Fine, bytes, bytes_state, domain, one_if, total, has_claimed, has_held, is_let_go, is_hold, is_own_claim, is_own_done, is_region_load, moves_to, reads, regions, le_value, partitions_of, regions_of, value_in, has_loaded}
 use Rattle.um_machine.specs.declared.pending.Amount.TheVariants as Amount
 use Rattle.um_fine.specs.Processor.{loaded, mode_of}
 use Rattle.um_refinement.specs.Frames.{IsWaitOver, both, nothing, rereads, settled}

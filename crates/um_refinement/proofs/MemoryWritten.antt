@@ -1,5 +1,5 @@
 -- The memory of both machines is written alike, where the relation holds: by stores, by copies out, and by the erasure of a stack.
-use Rattle.um_refinement.proofs.Words.{◌≡◌, ℕ, ◌<◌, Bool, true, false, cond, List, length, Option, sym, ap, ◌∙◌, if◌then◌else◌, nat_lt, Act, Image, Addr, Range, Row, Pending, Thread, allowed, with_bytes, Steps, State, thread_at, act_in, bytes_in, FineStep, Site, Bytes, memory_after, SiteState, s_next, same_site, site_after, Todos, allows, moves, says_step, Fine, bytes, bytes_state, MemoryIs, same-itself, Effect, effect, PARTITION_AREA, STACK_AREA, setup_at, stack_range, le_bytes, put_bytes, bytes_of, with_memory, write, start_of, zeros_of, ◌-◌, replicate}
+use Rattle.um_refinement.proofs.Words.{◌≡◌, ℕ, ◌<◌, Bool, true, false, cond, List, length, Option, sym, ap, ◌∙◌, if◌then◌else◌, nat_lt, Act, Image, Addr, Range, Row, Pending, Thread, allowed, with_bytes, Steps, State, thread_at, act_in, bytes_in, FineStep, Site, Bytes, memory_after, SiteState, s_next, same_site, site_after, Todos, allows, says_step, Fine, bytes, bytes_state, MemoryIs, same-itself, Effect, effect, PARTITION_AREA, STACK_AREA, setup_at, stack_range, le_bytes, put_bytes, bytes_of, with_memory, write, start_of, zeros_of, ◌-◌}
 use Rattle.um_base.specs.declared.names.Access.TheVariants as Access
 use Rattle.um_machine.specs.Table as T
 use Rattle.um_refinement.proofs.Erased.{stepped}

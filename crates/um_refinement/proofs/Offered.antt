@@ -1,5 +1,5 @@
 -- A step that a processor shows is one that the machine offers its thread, where the relation holds.
-use Rattle.um_refinement.proofs.Words.{allows, moves, Act, Bare, Bool, Cell, Context, CpuMay, Exchange, Fine, FineAct, FineStep, Fits, Image, IsOf, IsOffered, IsTrue, List, MayChoose, More, None, Offers, Option, Pending, Processor, ROWS, Rel, Site, SiteMay, SiteState, State, Steps, Thread, ThreadIx, Todo, Todos, Unseen, WordIs, [], act_in, and_from, and_parts, ap, arith, as_thread, begins, behind_shown, by_me, exits, false, false≢true, fits, fits_step, goes, has_steps, if◌then◌else◌, instruction_at, is_living, is_over, is_some, is_visiting, is_word_read, length, list_all, may_go, none_due, not, not-true, not_from_false, own_part, refl, runs, says, says_show, says_step, shows, site_after, site_answers, site_at, site_takes, skips_drops, skips_inherit, slice_index_or, subst, suc, sym, thread_at, thread_in, thread_state, true, true≢false, visited, waits, word_of, zero, ℕ, ◌&&◌, ◌<◌, ◌||◌, ◌∙◌, ◌∷◌, ◌≡◌, ◌⊎◌}
+use Rattle.um_refinement.proofs.Words.{allows, moves, Act, Bare, Bool, Cell, Context, CpuMay, Exchange, Fine, FineAct, FineStep, Fits, Image, IsOf, IsOffered, IsTrue, List, MayChoose, More, Offers, Option, Pending, Processor, ROWS, Rel, Site, SiteMay, SiteState, State, Steps, Thread, ThreadIx, Todo, Todos, Unseen, WordIs, [], act_in, and_from, and_parts, ap, arith, as_thread, begins, behind_shown, by_me, exits, false, false≢true, fits, fits_step, goes, has_steps, if◌then◌else◌, instruction_at, is_living, is_over, is_some, is_visiting, is_word_read, length, list_all, may_go, none_due, not, not_from_false, own_part, refl, runs, says, says_show, says_step, shows, site_after, site_answers, site_at, site_takes, skips_drops, skips_inherit, slice_index_or, subst, suc, sym, thread_at, thread_in, thread_state, true, true≢false, visited, waits, word_of, zero, ℕ, ◌&&◌, ◌<◌, ◌||◌, ◌∙◌, ◌∷◌, ◌≡◌}
 use Rattle.um_machine.specs.Run.{must_stop, stops}
 use Rattle.um_machine.specs.Table as T
 use Rattle.um_base.specs.declared.names.Access.{Access}

@@ -1,6 +1,6 @@
 -- The pools of both machines stay the same at every event that doesn't write them, and are written alike by buffers, where the relation
 -- holds; memory stays the same at the events that have places of their own.
-use Rattle.um_refinement.proofs.Words.{◌≡◌, ℕ, Bool, true, false, cond, List, Option, Some, None, refl, sym, ap, ◌∙◌, Act, Event, Image, Pending, Thread, Steps, State, thread_at, FineAct, More, act_in, charge_in, Heap, Bytes, memory_after, Exchange, FineStep, Site, SiteState, s_next, same_site, site_after, Todos, Processor, allows, more_of, moves, says_step, shows, same-itself, Fine, bytes, bytes_state, heap, heap_state, MemoryIs, Rel, heap_after, paid}
+use Rattle.um_refinement.proofs.Words.{◌≡◌, ℕ, Bool, true, false, cond, List, Option, Some, None, refl, sym, ap, ◌∙◌, Act, Event, Image, Pending, Thread, Steps, State, thread_at, FineAct, More, act_in, charge_in, Heap, Bytes, memory_after, Exchange, FineStep, Site, SiteState, s_next, same_site, site_after, Todos, Processor, allows, more_of, says_step, shows, same-itself, Fine, bytes, bytes_state, heap, heap_state, MemoryIs, Rel, heap_after, paid}
 use Rattle.um_base.specs.declared.names.Access.TheVariants as Access
 use Rattle.um_machine.specs.Table as T
 use Rattle.um_refinement.proofs.Erased.{stepped}

@@ -1,5 +1,5 @@
 -- What a processor was told of a domain to which its thread moves is what the machine's move answers, after every lawful step.
-use Rattle.um_refinement.proofs.Words.{runs, ◌≡◌, ◌⊎◌, inl, inr, ℕ, ◌<◌, Bool, true, false, cond, [], ◌∷◌, length, Option, Some, None, refl, sym, ap, ◌∙◌, subst, arith, eq-eqb, ◌==◌, ◌&&◌, ◌||◌, is_some, unwrap_or, eqb-true, false≢true, true≢false, Act, Image, Reply, ThreadIx, Partitions, Pending, Thread, Steps, State, thread_at, FineAct, Unseen, DomWord, domain_in, begins_cleaning, Context, after_claim, p_next, unless_loaded, Todo, Todos, Processor, fails, is_of, key_of, SiteState, s_next, same_site, site_after, word_of, FineStep, Site, same-sound, reads, Fine, domain, one_if, AreFramed, Behind, OnMemory, edits_step, has_claimed, has_steps, moves_to, moving, Fits, IsOffered, domain_at, move_reply, domain_moved}
+use Rattle.um_refinement.proofs.Words.{runs, ◌≡◌, ◌⊎◌, inl, inr, ℕ, ◌<◌, Bool, true, false, cond, [], ◌∷◌, length, Option, Some, None, refl, sym, ap, ◌∙◌, subst, arith, eq-eqb, ◌==◌, ◌&&◌, ◌||◌, is_some, unwrap_or, eqb-true, false≢true, true≢false, Act, Image, Reply, ThreadIx, Partitions, Pending, Thread, Steps, State, thread_at, FineAct, Unseen, DomWord, domain_in, Context, after_claim, p_next, unless_loaded, Todo, Todos, Processor, fails, is_of, key_of, SiteState, s_next, same_site, site_after, word_of, FineStep, Site, same-sound, reads, Fine, domain, one_if, AreFramed, Behind, OnMemory, edits_step, has_claimed, moves_to, moving, Fits, IsOffered, domain_at, move_reply, domain_moved}
 use Rattle.um_words.specs.Domains as Words
 use Rattle.um_refinement.specs.Offers as O
 use Rattle.um_refinement.proofs.DomainPart.{domain-part}

@@ -1,5 +1,5 @@
 -- What stands with the scheduler, and which threads are held, keeps within the bounds by every lawful step.
-use Rattle.um_refinement.proofs.Words.{◌<◌, THREADS, is_some, false≢true, ready_in, ◌≡◌, inl, ℕ, Bool, true, false, cond, List, [], ◌∷◌, ◌++◌, Option, Some, None, refl, sym, ap, ◌∙◌, subst, nat_lt, slice_index_or, slice_set, unwrap_or, list_all, and_from, and_parts, eqb-true, lt-ltb, true≢false, THREADS, to_thread, State, at_set, FineAct, Unseen, thread_after, context_in, ready_in, Context, Todo, Todos, Scheduler, first_taken, parked_at, put_back, SiteState, s_next, same_site, site_after, Exchange, FineStep, Site, Fine, scheduler, thread_state, word, Adds, has_steps, behind}
+use Rattle.um_refinement.proofs.Words.{◌<◌, THREADS, is_some, false≢true, ready_in, ◌≡◌, inl, ℕ, Bool, true, false, cond, List, [], ◌∷◌, ◌++◌, Option, Some, None, refl, sym, ap, ◌∙◌, subst, nat_lt, slice_index_or, slice_set, unwrap_or, list_all, and_from, and_parts, eqb-true, lt-ltb, true≢false, THREADS, to_thread, State, at_set, FineAct, Unseen, thread_after, context_in, ready_in, Context, Todo, Todos, Scheduler, parked_at, put_back, SiteState, s_next, same_site, site_after, Exchange, FineStep, Site, Fine, scheduler, thread_state, word, Adds, behind}
 use Rattle.um_refinement.proofs.Bounds.{AreBounded, AreThreads}
 use Rattle.um_refinement.proofs.CallBoundsKept.{IsBounded}
 use Rattle.um_refinement.proofs.Erased.{around}

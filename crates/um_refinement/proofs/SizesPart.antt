@@ -1,6 +1,6 @@
 -- The size of a queue's messages that a processor has looked at is that of the machine, after every lawful step: its thread's call holds the
 -- queue, so nobody frees it, and no act makes other contents of it.
-use Rattle.um_refinement.proofs.Words.{thread_in, waits, MayChoose, is_some, runs, ◌≡◌, inr, ℕ, ◌<◌, Bool, true, false, cond, [], ◌∷◌, Option, Some, None, refl, sym, ap, ◌∙◌, subst, ◌==◌, if◌then◌else◌, slice_index_or, unwrap_or, eqb-true, false≢true, Image, ROWS, Addr, Kind, Contents, Amount, Pending, Thread, Steps, to_thread, State, object_at, thread_at, FineAct, Unseen, row_kind, below_rows, row_named, domain_in, is_word_read, begins_cleaning, Cell, Context, after_claim, after_show, goes_on_by, p_next, unless_loaded, with_cleaned, ObjectCell, Todo, Todos, Processor, is_of, key_of, SiteState, site_moves, Exchange, FineStep, Site, Fine, object, AreFramed, has_steps, looked, Fits, IsOffered, message_size, size_in, queue_in, IsSized}
+use Rattle.um_refinement.proofs.Words.{thread_in, waits, MayChoose, is_some, runs, ◌≡◌, inr, ℕ, ◌<◌, Bool, true, false, cond, [], ◌∷◌, Option, Some, None, refl, sym, ap, ◌∙◌, subst, ◌==◌, if◌then◌else◌, slice_index_or, unwrap_or, eqb-true, false≢true, Image, ROWS, Addr, Kind, Contents, Amount, Pending, Thread, Steps, to_thread, State, object_at, thread_at, FineAct, Unseen, row_kind, below_rows, row_named, domain_in, is_word_read, begins_cleaning, Cell, Context, after_claim, after_show, goes_on_by, p_next, unless_loaded, with_cleaned, ObjectCell, Todo, Todos, Processor, is_of, key_of, SiteState, site_moves, Exchange, FineStep, Site, Fine, object, AreFramed, looked, Fits, IsOffered, message_size, size_in, queue_in, IsSized}
 use Rattle.um_machine.specs.Table as T
 use Rattle.um_fine.specs.Follows.{shown_step, with_actor}
 use Rattle.um_fine.specs.Places.{put_away}

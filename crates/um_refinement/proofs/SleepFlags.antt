@@ -1,9 +1,8 @@
 -- What a step makes of the flags of a thread that sleeps: only an abort, a suspension and a continuation of it change them; behind the first and the last
 -- stands that it is to be roused.
-use Rattle.um_refinement.proofs.Words.{after_show, behind_step, continues, filled_up, ne_eqb, runs_on, shows, waits, ◌≡◌, ℕ, ◌+◌, ◌<◌, Bool, true, false, cond, List, [], ◌∷◌, Option, Some, None, refl, sym, ap, ◌∙◌, subst, arith, ◌==◌, ◌&&◌, ◌||◌, not, eq-eqb, eqb-false, eqb-true, false≢true, true≢false, if◌then◌else◌, is_some, IsTrue, list_any, same-sound, Act, Event, Life, More, FineAct, FineStep, Unseen, Context, Image, Processor, Pending, Steps, State, Thread, ThreadIx, ThreadWord, thread_at, thread_after, to_thread, act_in, allows, says_step, Site, SiteState, same_site, s_next, site_after, thread_in, one_if, Todo, Todos, Fine, word, is_ended, THREADS}
+use Rattle.um_refinement.proofs.Words.{after_show, behind_step, continues, filled_up, ne_eqb, runs_on, shows, waits, ◌≡◌, ℕ, ◌<◌, Bool, true, false, cond, [], ◌∷◌, Some, None, refl, sym, ap, ◌∙◌, subst, arith, ◌==◌, ◌&&◌, ◌||◌, not, eq-eqb, eqb-true, false≢true, true≢false, if◌then◌else◌, is_some, list_any, Act, Life, More, FineAct, FineStep, Unseen, Context, Image, Processor, Pending, Steps, State, Thread, ThreadIx, ThreadWord, thread_at, thread_after, act_in, allows, says_step, Site, SiteState, same_site, s_next, site_after, thread_in, one_if, Todo, Todos, Fine, word, is_ended, THREADS}
 use Rattle.um_base.specs.declared.names.Access.TheVariants as Access
 use Rattle.um_machine.specs.State.{is_living, is_started}
-use Rattle.um_machine.specs.Table as T
 use Rattle.um_words.specs.Threads.{counted_thread, thread_after_act, thread_after_unseen}
 use Rattle.um_fine.specs.Answers.{is_done_in}
 use Rattle.um_fine.specs.Asks.{more_of}
@@ -22,7 +21,6 @@ use Rattle.um_refinement.proofs.RowSteps.{thread-sort}
 use Rattle.um_refinement.proofs.SchedulerSteps.{word-left}
 use Rattle.um_refinement.proofs.StepsLeft.{rests-on}
 use Rattle.um_refinement.proofs.TailsKept.{made-there}
-use Rattle.um_refinement.proofs.WordsKept.{IsShown}
 
 -- the flags of an aborted and of a suspended thread
 abbrev pub Same : ThreadWord → ThreadWord → Type 0

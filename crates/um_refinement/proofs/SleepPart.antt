@@ -1,6 +1,6 @@
 -- A thread that sleeps is suspended and not aborted, or somebody is to rouse it, or the one that put it to sleep is to read its word once more, after
 -- every lawful step.
-use Rattle.um_refinement.proofs.Words.{◌≡◌, ℕ, ◌<◌, Bool, true, false, cond, List, [], ◌∷◌, Option, Some, None, refl, sym, ap, ◌∙◌, subst, arith, ◌==◌, ◌&&◌, ◌||◌, not, eq-eqb, eqb-false, eqb-true, false≢true, true≢false, if◌then◌else◌, is_some, list_any, get_or-set_other, slice_index_or, slice_set, Exchange, FineAct, FineStep, Unseen, Context, Processor, State, ThreadWord, to_thread, Site, SiteState, site_answers, site_after, s_next, same_site, thread_after, thread_in, Todo, Todos, Fits, Fine, word, p_next, Behind, THREADS}
+use Rattle.um_refinement.proofs.Words.{◌≡◌, ℕ, ◌<◌, Bool, true, false, cond, List, [], ◌∷◌, Option, Some, None, refl, sym, ap, ◌∙◌, subst, ◌==◌, ◌||◌, not, eq-eqb, eqb-false, eqb-true, false≢true, true≢false, if◌then◌else◌, is_some, list_any, get_or-set_other, slice_index_or, slice_set, Exchange, FineAct, FineStep, Unseen, Context, Processor, State, ThreadWord, to_thread, Site, SiteState, site_answers, site_after, s_next, same_site, thread_in, Todo, Todos, Fits, Fine, word, p_next, Behind, THREADS}
 use Rattle.um_words.specs.Threads.{is_awake}
 use Rattle.um_fine.specs.Answers.{is_void}
 use Rattle.um_fine.specs.Joins.{Joins, asleep_at, join_after}
@@ -18,7 +18,7 @@ use Rattle.um_refinement.proofs.ParkedPart.{asleep-same, awake-act, idle-awake, 
 use Rattle.um_refinement.proofs.PlacesFacts.{set-none}
 use Rattle.um_refinement.proofs.RowSteps.{thread-sort}
 use Rattle.um_refinement.proofs.SchedulerSteps.{made-at, made-moves, made-says, word-left}
-use Rattle.um_refinement.proofs.SleepFlags.{Flags, Same, flags, flags-same, is_roused, stays, suspends, word-here}
+use Rattle.um_refinement.proofs.SleepFlags.{Flags, flags, is_roused, stays, suspends, word-here}
 use Rattle.um_refinement.proofs.StepReads.{is-behind, reads-last}
 use Rattle.um_refinement.proofs.TailsKept.{made-there, next-there}
 

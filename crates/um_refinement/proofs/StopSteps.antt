@@ -1,6 +1,6 @@
 -- A processor's abort, suspension or resumption of a thread is that step of the machine, where the relation holds: the word of that thread says
 -- whether it lives.
-use Rattle.um_refinement.proofs.Words.{◌≡◌, ℕ, ◌<◌, refl, sym, ap, ◌∙◌, subst, THREADS, Act, ThreadIx, Pending, Steps, is_living, State, thread_at, act_in, FineStep, Site, SiteState, site_answers, Todos, shows, Fine, word}
+use Rattle.um_refinement.proofs.Words.{◌≡◌, ℕ, ◌<◌, sym, ap, ◌∙◌, subst, THREADS, Act, ThreadIx, Pending, Steps, is_living, State, act_in, FineStep, Site, SiteState, site_answers, Todos, shows, Fine}
 use Rattle.um_machine.specs.Outcomes.{is_done_in}
 use Rattle.um_refinement.proofs.Offered.{IsStep, Shows, act-is, machine-step, says-at, site-is}
 use Rattle.um_refinement.proofs.RowSteps.{thread-sort}

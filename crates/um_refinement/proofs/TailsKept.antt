@@ -1,9 +1,8 @@
 -- What stands on a list behind its first step stays on it: each step that a processor makes takes the first away alone, and puts others in front
 -- or behind.
-use Rattle.um_refinement.proofs.Words.{◌≡◌, ℕ, Bool, true, false, List, [], ◌∷◌, ◌++◌, refl, sym, ap, ◌∙◌, subst, ◌||◌, list_any, false≢true, true≢false, Image, Context, Pending, Steps, FineAct, FineStep, Option, Some, cleaning_of, Todo, Todos, Processor, Behind, begins_cleaning, goes_on_by, is_word_read, p_next, row_number, with_cleaned, with_cleaning, cleaning, behind_step}
-use Rattle.um_fine.specs.Follows.{looks_behind, shown_step}
-use Rattle.um_refinement.specs.Frames.{IsActOver}
-use Rattle.um_refinement.proofs.ListGrowth.{EndsWell, ReadsLast, acted-kept, behind-kept, cleaning-kept, ends-behind, is_errand, is_shown, looks-kept, quiet-kept, show-kept}
+use Rattle.um_refinement.proofs.Words.{◌≡◌, Bool, true, false, [], ◌∷◌, ◌++◌, refl, sym, ap, ◌∙◌, subst, ◌||◌, list_any, false≢true, Image, Context, FineStep, Some, cleaning_of, Todo, Todos, Processor, Behind, begins_cleaning, goes_on_by, p_next, row_number, with_cleaned, behind_step}
+use Rattle.um_fine.specs.Follows.{shown_step}
+use Rattle.um_refinement.proofs.ListGrowth.{EndsWell, ReadsLast, acted-kept, behind-kept, cleaning-kept, ends-behind, looks-kept, quiet-kept, show-kept}
 
 or-right : (a b : Bool) → b ≡ true → (a || b) ≡ true
 or-right true b h = refl

@@ -1,6 +1,6 @@
 -- A processor's copy of a text is that step of the machine, where the relation holds: as many bytes are read as its table allows one by
 -- one, up to a zero.
-use Rattle.um_refinement.proofs.Words.{◌≡◌, ℕ, zero, suc, ◌+◌, ◌-◌, ◌<◌, ◌≤◌, Bool, true, false, List, [], ◌∷◌, length, refl, sym, ap, ◌∙◌, subst, arith, eq-eqb, ne_eqb, ◌==◌, if◌then◌else◌, false≢true, Act, Found, Image, Addr, Pending, allowed, bytes_at, string_bytes, Steps, State, act_in, bytes_in, Exchange, FineStep, Site, Bytes, read, SiteState, site_answers, Todos, Processor, allows, moves, shows, Fine, bytes, slice_index, string_from, found_in, limit_in, text_bytes, text_found, readable}
+use Rattle.um_refinement.proofs.Words.{◌≡◌, ℕ, zero, suc, ◌+◌, ◌-◌, ◌<◌, ◌≤◌, Bool, true, false, List, [], ◌∷◌, length, refl, sym, ap, ◌∙◌, subst, arith, eq-eqb, ne_eqb, ◌==◌, if◌then◌else◌, false≢true, Act, Found, Image, Addr, Pending, allowed, bytes_at, string_bytes, Steps, State, act_in, bytes_in, Exchange, FineStep, Site, Bytes, read, SiteState, site_answers, Todos, Processor, allows, shows, Fine, bytes, slice_index, string_from, found_in, limit_in, text_bytes, text_found, readable}
 use Rattle.um_base.specs.declared.names.Access.TheVariants as Access
 use Rattle.um_refinement.proofs.MemorySteps.{allows-it, memory-sort}
 use Rattle.um_refinement.specs.Frames.{nothing}

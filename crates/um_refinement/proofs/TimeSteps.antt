@@ -1,6 +1,6 @@
 -- That a deadline is armed, and that time goes on, are those steps of the machine, where the relation holds: the clock has the machine's time and
 -- deadlines.
-use Rattle.um_refinement.proofs.Words.{length, ◌≡◌, ℕ, ◌+◌, ◌<◌, Option, Some, [], refl, sym, ap, ◌∙◌, subst, is_some, unwrap_or, Act, Pending, Steps, to_thread, tends, State, thread_at, FineAct, act_in, Exchange, FineStep, Site, SiteState, site_answers, Todos, Processor, CpuMay, SiteMay, shows, Fine, Rel, IsTrue, is_started}
+use Rattle.um_refinement.proofs.Words.{length, ◌≡◌, ℕ, ◌+◌, ◌<◌, Some, refl, sym, ap, ◌∙◌, subst, is_some, unwrap_or, Act, Pending, Steps, tends, State, thread_at, act_in, FineStep, Site, SiteState, site_answers, Todos, shows, Fine, Rel, IsTrue, is_started}
 use Rattle.um_machine.specs.Outcomes.{deadline_in}
 use Rattle.um_machine.specs.Table as T
 use Rattle.um_machine.specs.Time.{next_deadline}

@@ -1,6 +1,6 @@
 -- What a processor's visit of a row makes is that step of the machine, where the relation holds: an inherited permission, and a
 -- permission that a thread's end drops.
-use Rattle.um_refinement.proofs.Words.{runs, true, waits, ◌≡◌, ℕ, ◌<◌, Bool, false, List, ◌∷◌, refl, sym, ap, ◌∙◌, subst, not, if◌then◌else◌, IsTrue, slice_index_or, and_parts, Act, Image, ROWS, own_row, Pending, Thread, Steps, to_thread, goes, State, pair_at, FineAct, Unseen, has, address_of, is_visit, FineStep, Site, SiteMay, SiteState, site_takes, Todo, Todos, CpuMay, by_me, says, site_at, Fine, row, has_steps, Fits, Passes, IsRun, Rel}
+use Rattle.um_refinement.proofs.Words.{runs, true, waits, ◌≡◌, ℕ, ◌<◌, Bool, false, List, ◌∷◌, refl, sym, ap, ◌∙◌, subst, not, if◌then◌else◌, IsTrue, slice_index_or, and_parts, Act, Image, ROWS, own_row, Pending, Thread, Steps, to_thread, goes, State, pair_at, FineAct, Unseen, has, address_of, is_visit, FineStep, Site, SiteMay, SiteState, site_takes, Todo, Todos, CpuMay, by_me, says, site_at, Fine, row, Fits, Passes, IsRun, Rel}
 use Rattle.um_machine.specs.Table as T
 use Rattle.um_refinement.proofs.StepsLeft.{passes-on}
 use Rattle.um_refinement.proofs.Erased.{Goes, GoesBy}

@@ -1,5 +1,5 @@
 -- Who is found in a cell waits there in the machine, where the relation holds; and a thread that waits has an own part, with the number of its note.
-use Rattle.um_refinement.proofs.Words.{◌≡◌, inl, inr, ℕ, zero, suc, ◌+◌, ◌<◌, ◌≤◌, Bool, true, false, List, [], ◌∷◌, length, Option, Some, None, refl, sym, ap, ◌∙◌, subst, arith, ◌==◌, ◌&&◌, ◌||◌, IsTrue, is_some, not, if◌then◌else◌, nat_lt, list_any, slice_index_or, and_parts, eq-or-lt_of_le, eqb-false, eqb-true, false≢true, true≢false, not-true, ltb-false, ltb-true, ◌⊎◌, ROWS, THREADS, Act, Context, Event, Waiter, ThreadIx, Thread, State, nobody, object_at, thread_at, FineAct, Unseen, More, Site, SiteState, site_answers, Exchange, ObjectCell, Fine, object, bytes, scheduler, parked_at, adders, of_thread, counted, is_recycle, is_wipe, one_if, runs, runs_thread, runs_on, places, is_over, Rel, recyclers, wipers, cell_of, empty_cell, total, waits, as_thread, own_part}
+use Rattle.um_refinement.proofs.Words.{◌≡◌, inl, inr, ℕ, zero, suc, ◌+◌, ◌<◌, ◌≤◌, Bool, true, false, List, [], ◌∷◌, length, Some, refl, sym, ap, ◌∙◌, subst, arith, ◌==◌, ◌||◌, is_some, if◌then◌else◌, nat_lt, and_parts, eq-or-lt_of_le, eqb-false, false≢true, not-true, ltb-false, ltb-true, ◌⊎◌, ROWS, THREADS, Act, Context, Event, Waiter, ThreadIx, Thread, State, nobody, object_at, thread_at, FineAct, More, Site, SiteState, site_answers, Exchange, ObjectCell, Fine, object, bytes, scheduler, parked_at, adders, of_thread, counted, is_recycle, is_wipe, one_if, runs_thread, runs_on, places, is_over, Rel, recyclers, wipers, cell_of, empty_cell, total, waits}
 use Rattle.um_base.specs.declared.limits.TheConstants.{FUTEX_CELL, JOIN_CELL}
 use Rattle.um_machine.specs.State.{is_to_resume, is_waiting, waiters_in}
 use Rattle.um_words.specs.CellActs.{stops_waiting}

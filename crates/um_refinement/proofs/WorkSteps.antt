@@ -1,6 +1,6 @@
 -- A processor's event on the contents of an object that its thread holds is that step of the machine, where the relation holds. So is a
 -- copy or a probe of a queue's message, whose size it has looked at, and a move to a domain, which it has claimed.
-use Rattle.um_refinement.proofs.Words.{◌≡◌, ℕ, ◌<◌, Bool, true, false, ◌∷◌, Some, refl, sym, ap, ◌∙◌, subst, length, IsTrue, slice_index_or, false≢true, Act, Ask, ROWS, Access, Addr, ThreadIx, Pending, Thread, allowed, Steps, Acted, acted, State, object_at, thread_at, row_named, act_in, outcome_in, Cell, ObjectCell, work_on, Exchange, FineStep, Site, SiteState, is_sort, site_answers, Todo, Todos, allows, moves, shows, Fine, object, has_steps, looked, moving, answer_in, caller_in, woken_in, caller, object_state}
+use Rattle.um_refinement.proofs.Words.{◌≡◌, ℕ, ◌<◌, Bool, true, false, ◌∷◌, Some, refl, sym, ap, ◌∙◌, subst, length, IsTrue, slice_index_or, false≢true, Act, Ask, ROWS, Access, Addr, ThreadIx, Pending, Thread, allowed, Steps, Acted, acted, State, object_at, thread_at, row_named, act_in, outcome_in, Cell, ObjectCell, work_on, Exchange, FineStep, Site, SiteState, is_sort, site_answers, Todo, Todos, allows, shows, Fine, object, looked, moving, answer_in, caller_in, woken_in, caller, object_state}
 use Rattle.um_machine.specs.declared.pending.Amount.TheVariants as Amount
 use Rattle.um_machine.specs.Table as T
 use Rattle.um_refinement.proofs.HeldRows.{checked-claimed, claimed-whole}

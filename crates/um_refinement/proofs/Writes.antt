@@ -2,7 +2,7 @@
 -- has to be kept by writes of an own part, of the words of threads, of objects, permissions, memory, pools and domains, of who waits, and of
 -- time, each only where
 -- the step makes one.
-use Rattle.um_refinement.proofs.Words.{◌==◌, ◌||◌, Waiter, ◌≡◌, ne_eqb, arith, ap, ℕ, suc, Bool, true, false, List, ◌∷◌, [], Option, Some, None, refl, ◌∙◌, ◌&&◌, if◌then◌else◌, slice_set, Kind, Mode, Partitions, Object, Pending, Life, Thread, Edit, Effect, effect, wrote, Next, gone, held, went, Given, with_bytes, Steps, to_addr, to_thread, State, vacant, object_at, thread_at, with_object, with_thread, list_all, and_parts, bytes-leave, OfEach, effects_of, next_of, woken-by, Act, addr_of, Status, Leftover, Mpu, Cost, is_gone, all-wrote, changed-same, held-same}
+use Rattle.um_refinement.proofs.Words.{◌==◌, ◌||◌, Waiter, ◌≡◌, ne_eqb, arith, ap, ℕ, suc, Bool, true, false, List, ◌∷◌, [], Option, Some, None, refl, ◌∙◌, ◌&&◌, if◌then◌else◌, slice_set, Kind, Mode, Partitions, Object, Pending, Life, Thread, Edit, Effect, effect, wrote, Next, gone, held, went, Given, with_bytes, Steps, to_addr, to_thread, State, vacant, object_at, thread_at, with_object, with_thread, list_all, bytes-leave, OfEach, effects_of, next_of, woken-by, Act, addr_of, Status, Leftover, Cost, is_gone, all-wrote, changed-same, held-same}
 use Rattle.um_base.specs.declared.limits.TheConstants.{FUTEX_CELL, JOIN_CELL}
 use Rattle.um_machine.specs.State.{no_image, with_waiters}
 use Rattle.um_machine.specs.Writes.{Effects, drops, edited, only, was_given}
