@@ -32,7 +32,7 @@ module _ (image : Image) where
   Proper checked (Pending.TimeOut who ∷ rest) = ⊥
   Proper checked (Pending.Expire ∷ rest) = ⊥
   Proper checked (Pending.Cut who ∷ rest) = ⊥
-  Proper checked (Pending.Killed ∷ rest) = Unit {0}
+  Proper checked (Pending.Killed ∷ rest) = rest ≡ []
   Proper checked (Pending.Abort who ∷ rest) = (who.0 < THREADS) × Proper checked rest
   Proper checked (Pending.Suspend who ∷ rest) = (who.0 < THREADS) × Proper checked rest
   Proper checked (Pending.Continue who ∷ rest) = (who.0 < THREADS) × Proper checked rest
@@ -75,7 +75,7 @@ module _ (image : Image) (checked : List Bool) where
 
   proper-aborts : (t who : ℕ) → who < THREADS → Proper image checked (aborts t who)
   proper-aborts t who few =
-      elim (who == t) as (λ b. Proper image checked (Pending.Abort (to_thread who) ∷ (if b then Pending.Killed ∷ [] else answer_void))) [ true ↦ (few, tt) | false ↦ (few, refl) ]
+      elim (who == t) as (λ b. Proper image checked (Pending.Abort (to_thread who) ∷ (if b then Pending.Killed ∷ [] else answer_void))) [ true ↦ (few, refl) | false ↦ (few, refl) ]
 
   proper-inherit : (inherits : Bool) (who : ThreadIx) (rest : Steps) → StartsOne who rest → Proper image checked rest
       → Proper image checked ((if inherits then Pending.Inherit who ∷ [] else []) ++ rest)

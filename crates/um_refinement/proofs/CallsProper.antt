@@ -162,7 +162,7 @@ module _ (m : State) (t x : ℕ) where
       by (begins e lives doomed there) = ((at [] e).0, lives)
       by (exits e lives doomed there) = ((at [] e).0, lives)
       by (tends {p = Pending.CleanPair who} is started) = tt
-      by (stops e lives must) = (tt, λ dead. absurd (true≢false (sym lives ∙ dead)))
+      by (stops e lives must) = (refl, λ dead. absurd (true≢false (sym lives ∙ dead)))
       by (leaves ends) = tt
       by (tends {p = Pending.Recycle} is started) = tt
       by (tends {p = Pending.Tick} is started) = tt
@@ -230,10 +230,10 @@ module _ (m : State) (t x : ℕ) where
         (h.0 (thread_at s t).checked, λ dead. absurd (true≢false (sym lives ∙ dead)))
     proper-after (Pending.Cut who) rest h =
         each-after call_of (IsProper m.image) ignores m t x (Pending.Cut who) rest (λ who script stack priority mode. (none-held, λ dead. absurd (true≢false dead)))
-        (λ th was. (tt, λ dead. ((was.1 dead).0, tt))) all (λ u th image same was. was)
+        (λ th was. (refl, λ dead. ((was.1 dead).0, tt))) all (λ u th image same was. was)
     proper-after q rest h =
         each-after call_of (IsProper m.image) ignores m t x q rest (λ who script stack priority mode. (none-held, λ dead. absurd (true≢false dead)))
-        (λ th was. (tt, λ dead. ((was.1 dead).0, tt))) all
+        (λ th was. (refl, λ dead. ((was.1 dead).0, tt))) all
         (λ u th image same was. gone-proper m.image known.reached.sited (thread-below m.image lawful) rest u t (next_of m t x q) th image (subst (λ (c : Call). Fits m.image c rest (next_of m t x q)) (sym same) (fits q rest h)) was)
 
 -- Along a run.
