@@ -177,6 +177,7 @@ pub mod JoinSteps
 pub mod JoinsPart
 pub mod LeaveSteps
 pub mod LookPart
+pub mod NotesKept
 pub mod SearchSteps
 pub mod SleepFlags
 pub mod SleepPart
