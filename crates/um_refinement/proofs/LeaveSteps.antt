@@ -151,7 +151,7 @@ module _ (f : Fine) (m : State) (rel : Rel f m) (sound : IsSound m) (proper : Ar
             shown : FineAct
             shown = by_me f.image (f.processors k) (Act.Left (to_thread t) (T.replies_of (all_joined (joins f) t)))
 
-    tells : T.replies_of (all_joined (joins f) t) ≡ woken_in (act_in e.act)
+    pub tells : T.replies_of (all_joined (joins f) t) ≡ woken_in (act_in e.act)
     tells =
         ap (λ z. woken_in (act_in z))
         (ap (λ b. if b then by_me f.image (f.processors k) (Act.Left (to_thread t) (T.replies_of (all_joined (joins f) t))) else FineAct.Unseen (Unseen.Shut (to_thread t))) (sym joined) ∙ here)

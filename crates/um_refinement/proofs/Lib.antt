@@ -143,6 +143,8 @@ pub mod DonePart
 pub mod AwayPart
 pub mod ListWakes
 pub mod ToldFacts
+pub mod ToldSteps
+pub mod ToldBeside
 pub mod ToldPart
 pub mod QueueSteps
 pub mod QueuesKept

@@ -193,6 +193,10 @@ module _ (f : Fine) (m : State) (rel : Rel f m) (waiting : WaitersWait m) (long 
     unfolding Out
     out-here = object-cell f m rel Out x.0 timer-below (λ empty. absurd (false≢true empty.0)) (λ whole. whole) out-there
 
+    -- its mark tells whom the timer serves
+    pub expire-says : T.replies_of (runs_out (object_at m x.0).waiters (in_order (object_at m x.0).waiters)).2 ≡ woken_in (act_in e.act)
+    expire-says = out-here.1
+
     later-out : (now : ℕ) (c : Contents) → has_run_out deadline c ≡ true → deadline ≤ now → has_run_out now c ≡ true
     later-out now (Contents.Running d) h l = let less = leb-true d deadline h in le-leb d now (omega (arith, less, l))
     later-out now c h l = absurd (false≢true h)
