@@ -180,6 +180,8 @@ pub mod JoinsPart
 pub mod LeaveSteps
 pub mod LookPart
 pub mod NotesKept
+pub mod WaitNotes
+pub mod WaitsNoted
 pub mod SearchSteps
 pub mod SleepFlags
 pub mod SleepPart

@@ -27,20 +27,20 @@ abbrev pub Same : ThreadWord → ThreadWord → Type 0
 Same z w = (z.suspended ≡ w.suspended) × (z.aborted ≡ w.aborted)
 
 -- the events that change them
-abbrev Flagless : Pending → Type 0
+abbrev pub Flagless : Pending → Type 0
 Flagless (Pending.Abort who) = ⊥
 Flagless (Pending.Suspend who) = ⊥
 Flagless (Pending.Continue who) = ⊥
 Flagless (Pending.Start who script stack priority mode) = ⊥
 Flagless q = Unit {0}
 
-unseen-same : (w : ThreadWord) (u : Unseen) → Same (thread_after_unseen w u) w
+pub unseen-same : (w : ThreadWord) (u : Unseen) → Same (thread_after_unseen w u) w
 unseen-same w Unseen.Hold = (refl, refl)
 unseen-same w Unseen.LetGo = (refl, refl)
 unseen-same w (Unseen.Note site) = (refl, refl)
 unseen-same w u = (refl, refl)
 
-shown-same : (image : Image) (p : Processor) (w : ThreadWord) (more : More) (q : Pending) (act : Act) → Flagless q → Same (thread_after_act w more (says_step image p q act)) w
+pub shown-same : (image : Image) (p : Processor) (w : ThreadWord) (more : More) (q : Pending) (act : Act) → Flagless q → Same (thread_after_act w more (says_step image p q act)) w
 shown-same image p w more (Pending.Abort who) act h = absurd h
 shown-same image p w more (Pending.Suspend who) act h = absurd h
 shown-same image p w more (Pending.Continue who) act h = absurd h
