@@ -9,6 +9,8 @@ use Rattle.um_machine.specs.Run.{stops, leaves}
 use Rattle.um_machine.specs.Table as T
 use Rattle.um_machine.specs.Writes.{cut}
 use Rattle.um_refinement.proofs.ArmSteps.{Acts, Calm, Ends, StartsTimer, Timed, Unarmed, Waiting, calm-steps, waiting-acts, rests-unarmed, unarmed-ways}
+use Rattle.um_refinement.proofs.Erased.{IsReachable}
+use Rattle.um_refinement.proofs.FirstThreads.{opening-is}
 use Rattle.um_refinement.proofs.StepsLeft.{fatal-left}
 
 -- what is read of a thread
@@ -292,3 +294,10 @@ timed-run s (event ∷ events) s2 all (mid, step, rest) =
     let here = offered-timed s t step.row (all t) step.step step.rest step.offered in
     let next = timed-after s t step.row all step.step step.rest here in
     timed-run mid events s2 (subst AreTimed (sym step.leaves) next) rest
+
+-- and so it is of each state that a run reaches
+opening-timed : (image : Image) → AreTimed (opening image)
+opening-timed image u = opening-is (λ (me : Thread). IsTimed (timing_of me)) (inl (inl (refl, tt))) (λ i boot. inl (inl (refl, tt))) image u
+
+pub timed-known : (image : Image) (cpus : ℕ) (m : State) → IsReachable image cpus m → AreTimed m
+timed-known image cpus m reach = timed-run (opening image) reach.0 m (opening-timed image) reach.1

@@ -217,7 +217,7 @@ module _ (f : Fine) (m : State) (e : FineStep) (law : Lawful f m e) (suits : Sui
   proper-begins image checked (Pending.Drops from ∷ rest) h = proper-begins image checked rest h
   proper-begins image checked (q ∷ rest) h = tt
 
-  begins : (t : ℕ) → BeginsNothing (thread_at m t).pending
+  pub begins : (t : ℕ) → BeginsNothing (thread_at m t).pending
   begins t = proper-begins m.image (thread_at m t).checked (thread_at m t).pending (suits.proper t).0
 
   -- a resume has a place of its own
