@@ -8,7 +8,7 @@ use Rattle.um_machine.specs.declared.pending.Pending.{Pending}
 use Rattle.um_machine.specs.State.{State}
 use Rattle.um_machine.specs.Memory.{allowed, bytes_at, le_value}
 use Rattle.um_machine.specs.Table.{act_of}
-use Rattle.um_trace.specs.Acts.{thread_act_text, domain_act_text, pair_act_text, heap_act_text, object_act_text, act_text}
+use Rattle.um_trace.specs.Acts.{stop_act_text, time_act_text, thread_act_text, domain_act_text, pair_act_text, heap_act_text, object_act_text, wake_act_text, act_text}
 
 -- drops, recycles and inheritances, and all others
 pub data Mark : Type 0 where
@@ -35,7 +35,7 @@ mark_step (Pending.Inherit who) = inherits
 mark_step p = others
 
 marked : (image : Image) (act : Act) → mark_in (act_text image act) ≡ mark_of act
-unfolding act_text object_act_text heap_act_text pair_act_text domain_act_text thread_act_text
+unfolding act_text wake_act_text object_act_text heap_act_text pair_act_text domain_act_text thread_act_text time_act_text stop_act_text
 marked image (Act.Begin script line) = refl
 marked image act = refl
 

@@ -19,9 +19,10 @@ use Rattle.um_machine.specs.declared.pending.Pending.{Pending}
 use Rattle.um_machine.specs.declared.thread.Life.{Life}
 use Rattle.um_machine.specs.declared.thread.Thread.{Thread}
 use Rattle.um_machine.specs.State.{State, nobody, vacant, thread_at, object_at, pair_at, with_pair, is_started, is_living}
+use Rattle.um_machine.specs.Joins.{has_ended, is_ending}
 use Rattle.um_machine.specs.Objects.{is_gone}
 use Rattle.um_machine.specs.Order.{Steps}
-use Rattle.um_machine.specs.Run.{Offers, goes, skips_inherit, skips_drops, begins, exits, tends, objects_from, boot_thread, index_or, granted, booted_one, booted, loaded, blank, opening}
+use Rattle.um_machine.specs.Run.{Offers, goes, skips_inherit, skips_drops, begins, exits, stops, leaves, tends, objects_from, boot_thread, index_or, granted, booted_one, booted, loaded, blank, opening}
 use Rattle.um_texts.proofs.PlainLemmas.{all_get}
 use Rattle.um_texts.proofs.IdentityLemmas.{is_real, has_own}
 use Rattle.um_texts.proofs.StateLemmas.{IsKept, is_acting, has_steps, are_fit, kept_thread, kept_pair, kept_bytes}
@@ -141,12 +142,22 @@ steps_acting me h = rw h (or_true (is_started me.life))
     or_true true = refl
     or_true false = refl
 
+ended_acting : (me : Thread) → is_ending me ≡ true → is_acting me ≡ true
+ended_acting me h = life_acting me (by me.life (and_parts _ _ h).0)
+  where
+    by : (life : Life) → has_ended life ≡ true → is_started life ≡ true
+    by Life.Ended k = refl
+    by Life.Living k = refl
+    by Life.Unborn k = k
+
 pub offered_acting : (s : State) (t : ℕ) (p : Pending) (rest : Steps) → Offers s t p rest → is_acting (thread_at s t) ≡ true
 offered_acting s t p rest (goes e) = steps_acting (thread_at s t) (rw e refl)
 offered_acting s t p rest (skips_inherit e h) = steps_acting (thread_at s t) (rw e refl)
 offered_acting s t p rest (skips_drops e h) = steps_acting (thread_at s t) (rw e refl)
 offered_acting s t p rest (begins e h k l) = living_started (thread_at s t) h
 offered_acting s t p rest (exits e h k l) = living_started (thread_at s t) h
+offered_acting s t p rest (stops e h m) = living_started (thread_at s t) h
+offered_acting s t p rest (leaves ending) = ended_acting (thread_at s t) ending
 offered_acting s t p rest (tends is h) = life_acting (thread_at s t) h
 
 -- The first thread.
@@ -160,6 +171,7 @@ no_index Setup.Mutex t e = refl
 no_index (Setup.Msgq size most) t e = refl
 no_index (Setup.Stack entries) t e = refl
 no_index (Setup.Pipe size) t e = refl
+no_index Setup.Timer t e = refl
 
 abbrev pub HasIndex : List ObjectDef → ℕ → Type 0
 HasIndex os t = (k : ℕ) × (o : ObjectDef) × (slice_get os k ≡ Some o) × (setup_thread o.setup ≡ Some t)

@@ -17,7 +17,7 @@ use Rattle.um_machine.specs.State.{State, object_at}
 use Rattle.um_machine.specs.Objects.{is_free, kind_number}
 use Rattle.um_machine.specs.Order.{to_addr}
 use Rattle.um_machine.specs.Run.{MayChoose}
-use Rattle.um_trace.specs.Acts.{reserved_text, pair_act_text, heap_act_text, object_act_text, act_text}
+use Rattle.um_trace.specs.Acts.{reserved_text, pair_act_text, heap_act_text, object_act_text, wake_act_text, act_text}
 use Rattle.um_trace.specs.Names.{thread_text, object_text}
 use Rattle.um_trace.specs.Words.{leftover_word}
 use Rattle.um_vocabulary.specs.Words.{kind_word}
@@ -42,7 +42,7 @@ three_known w a b c x y z ha hx hb hy h =
 -- a drop
 pub drop_known : (image : Image) → IsSound image → AreNamed image → (who whom : ThreadIx) (a b : Addr) (left other : Leftover) → has_own image who.0 ≡ true → has_own image whom.0 ≡ true
     → act_text image (Act.DropPair who a left) ≡ act_text image (Act.DropPair whom b other) → (who.0 ≡ whom.0) × (a.0 ≡ b.0)
-unfolding act_text object_act_text heap_act_text pair_act_text
+unfolding act_text wake_act_text object_act_text heap_act_text pair_act_text
 drop_known image sound named who whom a b left other own owns h =
     let parts =
     three_known (codes "drop ") (thread_text image who.0) (object_text image a.0) (leftover_word left) (thread_text image whom.0) (object_text image b.0) (leftover_word other)
@@ -52,14 +52,14 @@ drop_known image sound named who whom a b left other own owns h =
 -- an object that is recycled
 pub recycle_known : (image : Image) → IsSound image → AreNamed image → (x y : ℕ) → is_real image x ≡ true → is_real image y ≡ true
     → act_text image (Act.Recycle (to_addr (addr_of image x))) ≡ act_text image (Act.Recycle (to_addr (addr_of image y))) → x ≡ y
-unfolding act_text object_act_text heap_act_text
+unfolding act_text wake_act_text object_act_text heap_act_text
 recycle_known image sound named x y rx ry h =
     row_addr_known image sound named x y rx ry (append_cancel_left (codes "recycle ") (object_text image (addr_of image x)) (object_text image (addr_of image y)) h)
 
 -- an object that is inherited
 pub inherit_known : (image : Image) → IsSound image → AreNamed image → (who : ThreadIx) (x y : ℕ) → is_real image x ≡ true → is_real image y ≡ true
     → act_text image (Act.Inherit who (to_addr (addr_of image x))) ≡ act_text image (Act.Inherit who (to_addr (addr_of image y))) → x ≡ y
-unfolding act_text object_act_text heap_act_text pair_act_text
+unfolding act_text wake_act_text object_act_text heap_act_text pair_act_text
 inherit_known image sound named who x y rx ry h =
     row_addr_known image sound named x y rx ry
     (append_cancel_left (codes "inherit " ++ thread_text image who.0 ++ codes " ") (object_text image (addr_of image x)) (object_text image (addr_of image y)) h)
@@ -107,7 +107,7 @@ is_reserved s t x kind (inr may) = inr may.0
 
 pub reserve_known : (image : Image) → IsSound image → AreNamed image → (kind : Kind) (x y : ℕ) → IsReserved x → IsReserved y
     → act_text image (Act.Reserve kind (if x == 0 then None else Some (to_addr (addr_of image x)))) ≡ act_text image (Act.Reserve kind (if y == 0 then None else Some (to_addr (addr_of image y)))) → x ≡ y
-unfolding act_text object_act_text heap_act_text
+unfolding act_text wake_act_text object_act_text heap_act_text
 reserve_known image sound named kind x y rx ry h =
     let shown : reserved_text image (chosen_addr image x) ≡ reserved_text image (chosen_addr image y) = append_cancel_left (codes "reserve " ++ kind_word kind ++ codes " ") _ _ h in
     by rx ry shown

@@ -1,13 +1,14 @@
 -- What holds in each state of a run of an image: who has steps to make has an object of its own, pairs are with rows at which objects
 -- stand, only dynamic objects are gone, and steps that follow others are of their kinds.
 use Rattle.std.proofs.Common.{◌≡◌, ℕ, zero, suc, ◌+◌, ◌<◌, ◌≤◌, Bool, true, false, ◌&&◌, ◌||◌, List, [], ◌∷◌, length, refl, ap, Option, Some, None, if◌then◌else◌, slice_index_or, slice_set}
+use Rattle.um_base.specs.declared.ask.Waiter.{Waiter}
 use Rattle.um_base.specs.declared.image.Image.{Image}
 use Rattle.um_base.specs.declared.limits.TheConstants.{STATIC_ROWS, ROWS}
 use Rattle.um_base.specs.declared.names.Reply.{Reply}
 use Rattle.um_machine.specs.declared.object.Object.{Object}
 use Rattle.um_machine.specs.declared.pending.Pending.{Pending}
 use Rattle.um_machine.specs.declared.thread.Thread.{Thread}
-use Rattle.um_machine.specs.State.{State, nobody, vacant, thread_at, object_at, with_thread, with_object, pair_at, with_pair, is_started}
+use Rattle.um_machine.specs.State.{State, nobody, vacant, thread_at, object_at, with_thread, with_object, with_waiters, pair_at, with_pair, is_started}
 use Rattle.um_base.specs.Regions.{Partitions}
 use Rattle.um_machine.specs.Memory.{with_bytes}
 use Rattle.um_machine.specs.Objects.{is_gone}
@@ -135,3 +136,20 @@ kept_bytes_by image s false memory stacks kept = kept_beside image s s.memory st
 
 pub kept_bytes : (image : Image) (s : State) (a : ℕ) (bytes : List ℕ) → IsKept image s → IsKept image (with_bytes s a bytes)
 kept_bytes image s a bytes kept = kept_bytes_by image s _ _ _ kept
+
+-- virtual time isn't read
+pub kept_time : (image : Image) (s : State) (now : ℕ) (armed : List ℕ) → IsKept image s → IsKept image (record s { now = now; armed = armed })
+kept_time image s now armed kept = record { few = kept.few; image_is = kept.image_is; own = kept.own; fit = kept.fit; real = kept.real; gone = kept.gone }
+
+-- who waits isn't read
+kept_lists : (image : Image) (s : State) (joins futexes : List Waiter) → IsKept image s → IsKept image (record s { joins = joins; futexes = futexes })
+kept_lists image s joins futexes kept = record { few = kept.few; image_is = kept.image_is; own = kept.own; fit = kept.fit; real = kept.real; gone = kept.gone }
+
+kept_waiters_by : (image : Image) (s : State) (c : ℕ) (ws joins futexes : List Waiter) (apart : Bool) → IsKept image s
+    → IsKept image (record s { objects = if apart then s.objects else slice_set s.objects c (record (object_at s c) { waiters = ws }); joins = joins; futexes = futexes })
+kept_waiters_by image s c ws joins futexes true kept = kept_lists image s joins futexes kept
+kept_waiters_by image s c ws joins futexes false kept =
+    let o = record (object_at s c) { waiters = ws } in kept_lists image (with_object s c o) joins futexes (kept_object image s c o kept (kept.gone c))
+
+pub kept_waiters : (image : Image) (s : State) (c : ℕ) (ws : List Waiter) → IsKept image s → IsKept image (with_waiters s c ws)
+kept_waiters image s c ws kept = kept_waiters_by image s c ws _ _ _ kept
