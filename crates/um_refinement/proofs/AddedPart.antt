@@ -1,11 +1,12 @@
 -- Own parts that are to be added, of new threads and of those that are roused, are as the machine's threads say, after every lawful step.
-use Rattle.um_refinement.proofs.Words.{begins_cleaning, context_in, ◌≡◌, inl, inr, ℕ, zero, suc, ◌<◌, Bool, true, false, cond, [], ◌∷◌, Option, Some, None, refl, sym, ap, ◌∙◌, subst, arith, ℤ, ◌==◌, IsTrue, if◌then◌else◌, is_some, eqb-false, eqb-true, true≢false, Told, THREADS, Mode, Row, ThreadIx, IsLawful, Pending, Thread, Steps, to_thread, is_empty, State, is_started, thread_at, with_thread, FineAct, Unseen, is_word_read, Context, as_thread, newborn, goes_on_by, p_next, Todo, Todos, Processor, parked_at, Exchange, FineStep, Fine, one_if, scheduler, AreFramed, Adds, Fits, behind_shown, IsOf, is_ended, own_part, runs_on}
+use Rattle.um_refinement.proofs.Words.{waits, begins_cleaning, context_in, ◌≡◌, inl, inr, ℕ, zero, suc, ◌<◌, Bool, true, false, cond, [], ◌∷◌, Option, Some, None, refl, sym, ap, ◌∙◌, subst, arith, ℤ, ◌==◌, IsTrue, if◌then◌else◌, is_some, eqb-false, eqb-true, true≢false, Told, THREADS, Mode, Row, ThreadIx, IsLawful, Pending, Thread, Steps, to_thread, is_empty, State, is_started, thread_at, with_thread, FineAct, Unseen, is_word_read, Context, as_thread, newborn, goes_on_by, p_next, Todo, Todos, Processor, parked_at, Exchange, FineStep, Fine, one_if, scheduler, AreFramed, Adds, Fits, behind_shown, IsOf, is_ended, own_part, runs_on}
 use Rattle.um_machine.specs.Table as T
 use Rattle.um_fine.specs.Answers.{is_void}
 use Rattle.um_fine.specs.Follows.{filled_up}
 use Rattle.um_fine.specs.Joins.{asleep_at}
 use Rattle.um_fine.specs.Places.{armed_for, settling}
 use Rattle.um_refinement.specs.Fine.{joins}
+use Rattle.um_refinement.specs.Stops.{LiesAt, asleep}
 use Rattle.um_refinement.specs.Threads.{as_cut, cutters}
 use Rattle.um_refinement.proofs.CallsKnown.{starts-below, starts-known}
 use Rattle.um_refinement.proofs.ContextsPart.{is_shown, makes-part, not-idle, read-only, taken-lies}
@@ -18,7 +19,7 @@ use Rattle.um_refinement.proofs.ListGrips.{read-rests}
 use Rattle.um_refinement.proofs.ListGrowth.{ReadsLast}
 use Rattle.um_refinement.proofs.ListTails.{quiet-next}
 use Rattle.um_refinement.proofs.MemoryPart.{InDomains}
-use Rattle.um_refinement.proofs.Offered.{IsStep, Shows, behind-is, own-same, shown-offers}
+use Rattle.um_refinement.proofs.Offered.{own-unless, IsStep, Shows, behind-is, own-same, shown-offers}
 use Rattle.um_refinement.proofs.OwnKept.{starts-another}
 use Rattle.um_refinement.proofs.PartsElsewhere.{cutters-same, elsewhere-of}
 use Rattle.um_refinement.proofs.PlacesFacts.{adds-count, lies-here, lies-once, lies-unparked, lies-unslept}
@@ -33,7 +34,7 @@ module _ (f : Fine) (m : State) (e : FineStep) (law : Lawful f m e) where
   -- New threads that are still to be added.
 
   abbrev IsAdded : State → Context → Type 0
-  IsAdded s c = IsOf later s c × (c.ended ≡ false) × (c.pending ≡ [])
+  IsAdded s c = IsOf later s c × (c.ended ≡ false) × (c.pending ≡ []) × (c.noted ≡ None)
 
   module _ (lawful : IsLawful m.image) (suits : Suits f m) (all : InDomains f m) where
     -- nobody has cut a thread that is started
@@ -77,11 +78,12 @@ module _ (f : Fine) (m : State) (e : FineStep) (law : Lawful f m e) where
           },
           refl,
           refl,
+          refl,
         )
 
-    added-stays : (s : State) (how : Leaves f m e s) (c : Context) → (is : IsOf f m c × (c.ended ≡ false) × (c.pending ≡ [])) → (runs_on c.thread p ≡ true → ⊥)
+    added-stays : (s : State) (how : Leaves f m e s) (c : Context) → (is : IsOf f m c × (c.ended ≡ false) × (c.pending ≡ []) × (c.noted ≡ None)) → (runs_on c.thread p ≡ true → ⊥)
         → ((d : Context) (told : Option Told) → p.todo ≡ [] → e.moved ≡ Exchange.thread d told → d.thread ≡ c.thread → ⊥) → IsAdded s c
-    added-stays s how c is alone untaken = (elsewhere-of f m e law s how c.thread is.0.index c is.0 refl (rests-on c is.1) alone untaken, is.1, is.2)
+    added-stays s how c is alone untaken = (elsewhere-of f m e law s how c.thread is.0.index c is.0 refl (rests-on c is.1) alone untaken, is.1, is.2, is.3)
 
     -- on the maker's list
     mine-stays : (s : State) (how : Leaves f m e s) (q : Todo) (todo : Todos) → p.todo ≡ q ∷ todo → (c : Context) → Adds c (q ∷ todo) → IsAdded s c
@@ -170,13 +172,26 @@ module _ (f : Fine) (m : State) (e : FineStep) (law : Lawful f m e) where
             left : Adds c todo → IsAdded s c
             left there = mine-stays s how (Todo.rouse who) todo at c there
 
+            -- one that slept was at rest, so it has no note
+            unnoted : (d : Context) → asleep_at (joins f) who ≡ Some d → d.noted ≡ None
+            unnoted d here =
+                let is = law.rel.contexts.asleep who d here in
+                let rests = sym (ap (λ (z : Thread). z.pending) (own-unless is.0 (ap waits is.3))) ∙ is.3 in
+                let note = (law.rel.threads d.thread is.0.index).note in
+                let lies : LiesAt f d.thread d = asleep d (ap (asleep_at (joins f)) is.1 ∙ here) in
+                none-left d.noted (sym (note.there d lies) ∙ ap is_some (note.rest rests))
+              where
+                none-left : (o : Option ℕ) → is_some o ≡ false → o ≡ None
+                none-left None h = refl
+                none-left (Some n) h = absurd (true≢false h)
+
             sleeper : is_void e.act ≡ false → c ≡ context_in e.moved → IsAdded s c
             sleeper finds same =
                 let (d, here, moved) = rouses-sleeper f m law.rel p e law.by.may law.taken who todo at finds in
                 let is = law.rel.contexts.asleep who d here in
                 let slept : is_some (asleep_at (joins f) d.thread) ≡ true = ap (λ n. is_some (asleep_at (joins f) n)) is.1 ∙ ap is_some here in
                 subst (IsAdded s) (sym (same ∙ ap context_in moved))
-                (added-stays s how d (is.0, is.2, is.3)
+                (added-stays s how d (is.0, is.2, is.3, unnoted d here)
                 (λ mine-on. let one = ap one_if mine-on in true≢false (sym slept ∙ lies-unslept f m law.rel d.thread is.0.index e.cpu law.by.named (omega (arith, one))))
                 (λ z told idle. absurd (not-idle f m e law (Todo.rouse who) todo at idle)))
 

@@ -82,7 +82,7 @@ pub record ContextsAre (f : Fine) (m : State) : Type 0 where
   -- one that sleeps is at rest, and holds nothing
   pub asleep : (t : ℕ) (c : Context) → asleep_at (joins f) t ≡ Some c
       → IsOf f m c × (c.thread ≡ t) × (c.ended ≡ false) × (c.pending ≡ []) × (c.claims ≡ [])
-  pub added : (k : ℕ) (c : Context) → k < f.cpus → Adds c (f.processors k).todo → IsOf f m c × (c.ended ≡ false) × (c.pending ≡ [])
+  pub added : (k : ℕ) (c : Context) → k < f.cpus → Adds c (f.processors k).todo → IsOf f m c × (c.ended ≡ false) × (c.pending ≡ []) × (c.noted ≡ None)
   pub once : (t : ℕ) → t < THREADS → places f t ≤ 1
   -- a turn ends with a thread that is at rest, and has ended or is doomed, or goes to sleep
   pub done : (k : ℕ) → k < f.cpus → list_any is_done (f.processors k).todo ≡ true → list_any is_sleep (f.processors k).todo ≡ false
