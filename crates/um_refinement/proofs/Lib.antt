@@ -171,6 +171,7 @@ pub mod CellSites
 pub mod ContentsBeside
 pub mod ContentsLeft
 pub mod CutPart
+pub mod CutComesPart
 pub mod FirstStops
 pub mod FirstWaits
 pub mod FutexSteps

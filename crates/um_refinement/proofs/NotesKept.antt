@@ -1,8 +1,7 @@
 -- The number of its note that a cell keeps of a thread stays at every step that isn't an event of that thread.
-use Rattle.um_refinement.proofs.Words.{length, ◌≡◌, ◌≢◌, ℕ, ◌+◌, ◌<◌, ◌≤◌, Bool, true, false, cond, List, [], ◌∷◌, Option, Some, None, refl, sym, ap, ◌∙◌, subst, ◌==◌, if◌then◌else◌, eqb-false, eqb-true, get_or-set_other, same-sound, slice_index_or, slice_set, ROWS, Act, Addr, Answer, Ask, Waiter, Image, Processor, Exchange, FineAct, FineStep, More, Unseen, Pending, Steps, State, ThreadIx, to_thread, act_in, answer_in, allows, caller_in, says_step, shows, site_after, s_next, same_site, Site, SiteState, Bytes, Cell, ObjectCell, Todo, Todos, Fine, bytes, bytes_state, memory_after, object, arith}
+use Rattle.um_refinement.proofs.Words.{length, ◌≡◌, ◌≢◌, ℕ, ◌+◌, ◌<◌, Bool, true, false, cond, List, refl, sym, ap, ◌∙◌, ◌==◌, if◌then◌else◌, eqb-false, get_or-set_other, same-sound, slice_index_or, slice_set, ROWS, Act, Answer, Exchange, FineAct, FineStep, Unseen, Pending, Steps, State, ThreadIx, to_thread, act_in, answer_in, allows, caller_in, shows, site_after, s_next, same_site, Site, SiteState, Bytes, ObjectCell, Todos, Fine, bytes, bytes_state, memory_after, object, arith}
 use Rattle.um_base.specs.declared.limits.TheConstants.{FUTEX_CELL, JOIN_CELL}
 use Rattle.um_base.specs.declared.names.Access.TheVariants as Access
-use Rattle.um_base.specs.declared.names.Timeout.{Timeout}
 use Rattle.um_fine.specs.Answers.{noted_in}
 use Rattle.um_fine.specs.Asks.{moves_show}
 use Rattle.um_fine.specs.Joins.{Joins, begins_waiting, join_after, join_after_act}
@@ -13,7 +12,7 @@ use Rattle.um_refinement.proofs.CellSteps.{cell-else, cell-here}
 use Rattle.um_refinement.proofs.Erased.{around}
 use Rattle.um_refinement.proofs.Leaves.{Beside, Lawful, Leaves, beside as beside_it, cleans, cuts, drops, event, expires, leaves as leaves_it, nothing, passes, recycles, resumes, ticks, times_out}
 use Rattle.um_refinement.proofs.MemorySteps.{memory-sort}
-use Rattle.um_refinement.proofs.Offered.{Shows, IsStep, either-act, moved-made}
+use Rattle.um_refinement.proofs.Offered.{Shows, either-act, moved-made}
 use Rattle.um_refinement.proofs.ParkedPart.{joins-else, joins-later}
 
 -- a list keeps another place

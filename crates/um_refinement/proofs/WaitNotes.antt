@@ -1,10 +1,9 @@
 -- Only a call that may wait is told to: so a thread that begins to wait in a cell noted that cell.
-use Rattle.um_refinement.proofs.Words.{◌≡◌, ℕ, Bool, true, false, List, [], ◌∷◌, Option, Some, None, refl, sym, ap, ◌∙◌, subst, if◌then◌else◌, not, false≢true, true≢false, nat_le, nat_lt, ◌==◌, filter, length, Answer, Ask, Image, Pending, State, ThreadIx, Waiter, Acted, in_order, row_named, Rel, Fine, ROWS, ◌<◌, ltb-true}
+use Rattle.um_refinement.proofs.Words.{◌≡◌, ℕ, Bool, true, false, List, [], ◌∷◌, Option, Some, None, refl, sym, ap, ◌∙◌, if◌then◌else◌, not, true≢false, nat_le, nat_lt, ◌==◌, filter, length, Answer, Ask, ThreadIx, Waiter, Acted, in_order}
 use Rattle.std.specs.Prelude.{reverse}
 use Rattle.um_base.specs.declared.names.Timeout.{Timeout}
 use Rattle.um_machine.specs.declared.contents.Contents.{Contents}
-use Rattle.um_machine.specs.declared.contents.Contents.TheVariants as Contents
-use Rattle.um_machine.specs.Services.{acted_by, blocks, fills, is_getter, is_putter, msgq_act, mutex_act, mutex_lock, mutex_passes, mutex_unlock, msgq_get, msgq_peek, msgq_put, msgq_take, pipe_act, pipe_read, pipe_write, renews, running_act, sem_act, sem_give, stack_act, stack_pop, stack_push, stopped_act, timer_stops, uses}
+use Rattle.um_machine.specs.Services.{acted_by, blocks, fills, is_getter, is_putter, msgq_act, mutex_act, mutex_passes, msgq_put, msgq_take, pipe_act, renews, running_act, sem_act, sem_give, stack_act, stack_pop, stack_push, stopped_act, timer_stops, uses}
 use Rattle.um_fine.specs.Places.{is_patient, may_wait}
 
 abbrev is_now : Answer → Bool

@@ -1,11 +1,11 @@
 -- A thread that begins to wait in a cell noted that cell, and its processor is to read its word once more then.
-use Rattle.um_refinement.proofs.Words.{says_step, Waiter, bytes_at, le_value, object_at, thread_at, to_thread, ◌≡◌, ℕ, zero, suc, ◌+◌, ◌<◌, Bool, true, false, List, [], ◌∷◌, ◌++◌, Option, Some, None, refl, sym, ap, ◌∙◌, subst, ◌==◌, ◌||◌, if◌then◌else◌, eq-eqb, list_any, ltb-true, false≢true, true≢false, ROWS, Addr, Answer, Ask, ThreadIx, Told, Context, Exchange, FineStep, Pending, Steps, State, Errno, Processor, Todo, Todos, act_in, after_show, answer_in, behind_step, continues, filled_up, outcome_in, row_named, thread_in, wakes, Fine}
+use Rattle.um_refinement.proofs.Words.{says_step, Waiter, bytes_at, le_value, object_at, thread_at, to_thread, ◌≡◌, ℕ, zero, suc, ◌+◌, ◌<◌, Bool, true, false, List, [], ◌∷◌, ◌++◌, Option, Some, None, refl, sym, ap, ◌∙◌, subst, ◌==◌, ◌||◌, if◌then◌else◌, eq-eqb, list_any, ltb-true, false≢true, ROWS, Answer, ThreadIx, Told, Context, FineStep, Pending, Steps, State, Errno, Processor, Todo, Todos, act_in, after_show, answer_in, continues, filled_up, outcome_in, row_named, thread_in, wakes, Fine}
 use Rattle.um_base.specs.declared.names.Timeout.{Timeout}
-use Rattle.um_machine.specs.Futexes.{futex_answer, futex_refusal, futex_wait}
+use Rattle.um_machine.specs.Futexes.{futex_refusal, futex_wait}
 use Rattle.um_machine.specs.Joins.{join_answer}
 use Rattle.um_machine.specs.Table as T
 use Rattle.um_fine.specs.Follows.{rereads, waits_behind}
-use Rattle.um_fine.specs.Places.{if_patient, is_patient, may_wait, noted_cell, put_away}
+use Rattle.um_fine.specs.Places.{if_patient, is_patient, noted_cell, put_away}
 use Rattle.um_refinement.specs.Stops.{cell_site, is_reread}
 use Rattle.um_refinement.proofs.Erased.{around}
 use Rattle.um_refinement.proofs.Leaves.{Lawful}
