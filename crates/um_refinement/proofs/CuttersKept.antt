@@ -59,13 +59,23 @@ module _ (f : Fine) (m : State) (e : FineStep) (law : Lawful f m e) where
       let kept = ap (λ (cuts : List Bool). one_if (slice_index_or cuts t false)) (cuts-later q todo at h) in
       omega (arith, lists, behind, here, kept)
 
+  told-cuts : (who : ℕ) (todo : Todos) → p.todo ≡ Todo.tell_cut who ∷ todo → (scheduler later).cuts ≡ slice_set (scheduler f).cuts who true
+  told-cuts who todo at = ap (λ (s : Scheduler). s.cuts) (sched-later f m e law (made-at f m e law (Todo.tell_cut who ∷ todo) at) _ (made-says f m e law (Todo.tell_cut who ∷ todo) at))
+
+  -- another gets ready
+  pub cutters-apart : (who : ℕ) (todo : Todos) → p.todo ≡ Todo.tell_cut who ∷ todo → (t : ℕ) → (who == t) ≡ false → cutters later t ≡ cutters f t
+  cutters-apart who todo at t other =
+      let lists = listed t in
+      let behind = left t (Todo.tell_cut who) todo at in
+      let mine : Cuts f.image t p.todo ≡ Cuts f.image t todo = ap (Cuts f.image t) at ∙ ap (λ b. if b then Cuts f.image t todo + 1 else Cuts f.image t todo) other in
+      let kept : one_if (is_cut (scheduler later) t) ≡ one_if (is_cut (scheduler f) t) =
+      ap (λ (cuts : List Bool). one_if (slice_index_or cuts t false)) (told-cuts who todo at) ∙ ap one_if (get_or-set_other (scheduler f).cuts who t true false (λ same. eqb-false who t other (sym same))) in
+      omega (arith, lists, behind, mine, kept)
+
   -- it gets ready
   pub cutters-told : (who : ℕ) (todo : Todos) → p.todo ≡ Todo.tell_cut who ∷ todo → (t : ℕ) → t < THREADS → cutters later t ≡ cutters f t
   cutters-told who todo at t few = by (who == t) refl
     where
-      cuts : (scheduler later).cuts ≡ slice_set (scheduler f).cuts who true
-      cuts = ap (λ (s : Scheduler). s.cuts) (sched-later f m e law (made-at f m e law (Todo.tell_cut who ∷ todo) at) _ (made-says f m e law (Todo.tell_cut who ∷ todo) at))
-
       here : Cuts f.image t p.todo ≡ (if who == t then Cuts f.image t todo + 1 else Cuts f.image t todo)
       here = ap (Cuts f.image t) at
 
@@ -80,15 +90,9 @@ module _ (f : Fine) (m : State) (e : FineStep) (law : Lawful f m e) where
           let equal = eqb-true who t same in
           let none : one_if (is_cut (scheduler f) t) ≡ 0 = omega (arith, once, part, mine) in
           let set : one_if (is_cut (scheduler later) t) ≡ 1 =
-          ap (λ (cuts : List Bool). one_if (slice_index_or cuts t false)) cuts ∙ ap one_if (get_or-set_at (scheduler f).cuts who t true false (sym equal) (omega (arith, few, long, equal))) in
+          ap (λ (cuts : List Bool). one_if (slice_index_or cuts t false)) (told-cuts who todo at) ∙ ap one_if (get_or-set_at (scheduler f).cuts who t true false (sym equal) (omega (arith, few, long, equal))) in
           omega (arith, lists, behind, mine, none, set)
-      by false other =
-          let lists = listed t in
-          let behind = left t (Todo.tell_cut who) todo at in
-          let mine : Cuts f.image t p.todo ≡ Cuts f.image t todo = here ∙ ap (λ b. if b then Cuts f.image t todo + 1 else Cuts f.image t todo) other in
-          let kept : one_if (is_cut (scheduler later) t) ≡ one_if (is_cut (scheduler f) t) =
-          ap (λ (cuts : List Bool). one_if (slice_index_or cuts t false)) cuts ∙ ap one_if (get_or-set_other (scheduler f).cuts who t true false (λ same. eqb-false who t other (sym same))) in
-          omega (arith, lists, behind, mine, kept)
+      by false other = cutters-apart who todo at t other
 
   -- a processor without a thread that takes none
   pub cutters-idle : (t : ℕ) → p.todo ≡ [] → e.site ≡ Site.clock → cutters later t ≡ cutters f t

@@ -1,5 +1,5 @@
 -- No list shows a resume, an inheritance or the drops of an end as one step: they are made as turns and visits.
-use Rattle.um_refinement.proofs.Words.{◌≡◌, ℕ, Bool, true, false, is_some, if◌then◌else◌, ◌==◌, behind_step, thread_in, [], ◌∷◌, ◌++◌, Option, Some, None, refl, sym, ap, ◌∙◌, nat_lt, list_all, and_parts, false≢true, Image, ROWS, own_row, thread_of_row, Pending, Steps, are_orderly, begins_cleaning, Context, goes_on_by, p_next, row_number, with_cleaned, Todo, Todos, is_cleaning_todo, but, cleaning_of, end_of_turn, fine_steps, next_steps, Processor, FineStep, names_row}
+use Rattle.um_refinement.proofs.Words.{waits, ◌||◌, ◌≡◌, ℕ, Bool, true, false, is_some, if◌then◌else◌, ◌==◌, behind_step, thread_in, [], ◌∷◌, ◌++◌, Option, Some, None, refl, sym, ap, ◌∙◌, nat_lt, list_all, and_parts, false≢true, Image, ROWS, own_row, thread_of_row, Pending, Steps, are_orderly, begins_cleaning, Context, goes_on_by, p_next, row_number, with_cleaned, Todo, Todos, is_cleaning_todo, but, cleaning_of, end_of_turn, fine_steps, next_steps, Processor, FineStep, names_row}
 use Rattle.um_base.specs.declared.names.Addr.{Addr}
 use Rattle.um_fine.specs.Addresses.{row_named}
 use Rattle.um_fine.specs.Follows.{shown_step}
@@ -24,6 +24,10 @@ AreSingle todo = list_all shows_single todo ≡ true
 
 tail-single : (q : Todo) (todo : Todos) → AreSingle (q ∷ todo) → AreSingle todo
 tail-single q todo h = (and_parts (shows_single q) (list_all shows_single todo) h).1
+
+-- steps that wait, or that are in order
+abbrev pub are_in_order : Steps → Bool
+are_in_order steps = waits steps || are_orderly steps
 
 module _ (image : Image) where
   noted : (c : Context) (site : Option ℕ) (todo : Todos) → AreSingle todo → AreSingle (noting image c site todo)
@@ -59,7 +63,7 @@ module _ (image : Image) where
   end-single false = refl
 
   -- behind an inheritance stands a start, and behind the drops of an end a clearing
-  next-single : (c : Context) (steps : Steps) → are_orderly steps ≡ true → AreSingle (next_steps image c steps)
+  next-single : (c : Context) (steps : Steps) → are_in_order steps ≡ true → AreSingle (next_steps image c steps)
   next-single c [] h = end-single c.ended
   next-single c (Pending.Resume ∷ rest) h = refl
   next-single c (Pending.Inherit who ∷ []) h = absurd (false≢true h)
@@ -73,7 +77,7 @@ module _ (image : Image) where
   next-single c (q ∷ rest) h = fine-single c q rest refl
 
   abbrev IsOrderly : Context → Type 0
-  IsOrderly c = are_orderly c.pending ≡ true
+  IsOrderly c = are_in_order c.pending ≡ true
 
   expands : (c : Context) → IsOrderly c → AreSingle [] → AreSingle (next_steps image c c.pending)
   expands c o h = next-single c c.pending o
@@ -120,8 +124,8 @@ module _ (image : Image) where
       later q old new c more k = more k
 
   -- so after a step of the processor, where the steps that its thread has left then are in order
-  pub next-are-single : (p : Processor) (e : FineStep) → AreFramed image p.todo → are_orderly (p_next image p e).context.pending ≡ true → AreSingle p.todo → AreSingle (p_next image p e).todo
+  pub next-are-single : (p : Processor) (e : FineStep) → AreFramed image p.todo → are_in_order (p_next image p e).context.pending ≡ true → AreSingle p.todo → AreSingle (p_next image p e).todo
   next-are-single p e framed o h =
       acted-kept image AreSingle (with_cleaned image (goes_on_by image p e p.todo) e (begins_cleaning e)) e.act
       (cleaned-are (goes_on_by image p e p.todo) e (begins_cleaning e)
-      (goes-single p e p.todo framed h (ap (λ (c : Context). are_orderly c.pending) (sym (next-context image p e)) ∙ o) h))
+      (goes-single p e p.todo framed h (ap (λ (c : Context). are_in_order c.pending) (sym (next-context image p e)) ∙ o) h))

@@ -36,7 +36,7 @@ told-back reply [] = refl
 told-back reply (v ∷ vs) = ap (λ ws. told v reply [] ∷ ws) (told-back reply vs)
 
 -- and so for the one whom a timer serves
-out-back : (ws vs : List Waiter) → told_all (T.replies_of (runs_out ws vs).2) ≡ (runs_out ws vs).2
+pub out-back : (ws vs : List Waiter) → told_all (T.replies_of (runs_out ws vs).2) ≡ (runs_out ws vs).2
 out-back ws [] = refl
 out-back ws (v ∷ vs) = refl
 

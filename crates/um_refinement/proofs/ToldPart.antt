@@ -59,7 +59,7 @@ killed-quiet m t _ (stops rests lives must) = ap is_resume rests
 killed-quiet m t _ (tends is started) = absurd (false≢true is)
 
 -- a wake on a futex tells as many as it rouses
-few-of : (every : Bool) (ws : List Waiter) (u : ℕ) → times u (some_of every ws) ≤ times u ws
+pub few-of : (every : Bool) (ws : List Waiter) (u : ℕ) → times u (some_of every ws) ≤ times u ws
 few-of true ws u = omega arith
 few-of false [] u = omega arith
 few-of false (w ∷ ws) u = omega arith
