@@ -125,10 +125,10 @@ stood-in r phase cleans ends woken e ec ee ew = bare cleans ends woken (processo
 
 -- at the event of its thread's next step, or without one
 pub at-none : (phase : Phase) (r : Running) → steps_behind r.visited r.context.value.pending ≡ [] → at_event phase r ≡ about_to_park phase r
-at-none phase r e = ap (λ (steps : Steps). with_todo r (showing steps (todo_after phase (behind_access (first_of steps) (ready_of r)) r))) e
+at-none phase r e = ap (λ (steps : Steps). with_todo r (showing steps (todo_after phase (behind_access (first_of steps) (ready_of r)) (ready_of r)))) e
 
 pub at-step : (phase : Phase) (r : Running) (step : Pending) → steps_behind r.visited r.context.value.pending ≡ step ∷ rest_of r → at_event phase r ≡ about_to phase step r
-at-step phase r step e = ap (λ (steps : Steps). with_todo r (showing steps (todo_after phase (behind_access (first_of steps) (ready_of r)) r))) e
+at-step phase r step e = ap (λ (steps : Steps). with_todo r (showing steps (todo_after phase (behind_access (first_of steps) (ready_of r)) (ready_of r)))) e
 
 pub none_left : {A : Type 0} (xs : List A) → length xs ≤ 0 → xs ≡ []
 none_left [] h = refl

@@ -55,15 +55,19 @@ no-some None h = refl
 no-some (Some x) h = absurd (false≢true (sym h))
 
 module _ (image : Image) (c : Context) (rest : Steps) where
-  work-places : (a : Addr) (ask : Ask) (b : Bool) → is_untimed c ask ≡ b
-      → let p = Pending.Work a ask in todo_in (act_phase image c p b) (p ∷ rest) (ready_for image c p (first_of rest)) ≡ fine_steps image c p rest
-  work-places a ask true h =
+  -- an act that can't wait, for which nothing is armed, stands alone
+  pub untimed-shows : (a : Addr) (ask : Ask) → is_untimed c ask ≡ true → let p = Pending.Work a ask in Todo.show p rest ∷ [] ≡ fine_steps image c p rest
+  untimed-shows a ask h =
       let p = Pending.Work a ask in
       let parts = and_parts _ _ h in
       let waits : may_wait ask ≡ false = not-true (may_wait ask) (and_parts _ _ parts.0).0 in
       let starts : is_timer_start ask ≡ false = not-true (is_timer_start ask) (and_parts _ _ parts.0).1 in
       let none : armed_for image c p ≡ None = armed-is image c a ask starts ∙ no-some c.until (not-true (is_some c.until) parts.1) in
       sym ((λ i. noting image c (if_patient (waits i) (168 + row_named image a)) (Todo.show p rest ∷ settling image c (none i) p)))
+
+  work-places : (a : Addr) (ask : Ask) (b : Bool) → is_untimed c ask ≡ b
+      → let p = Pending.Work a ask in todo_in (act_phase image c p b) (p ∷ rest) (ready_for image c p (first_of rest)) ≡ fine_steps image c p rest
+  work-places a ask true h = untimed-shows a ask h
   work-places a ask false h =
       let p = Pending.Work a ask in
       let tail = ap (λ (todo : Todos). Todo.show p rest ∷ todo) (settles image c p (armed_for image c p)) in
@@ -90,7 +94,7 @@ module _ (image : Image) (c : Context) (rest : Steps) where
       ∙ ap (λ (cell : Option ℕ). noting image c cell (Todo.owe ∷ Todo.show p rest ∷ [])) (noted-first image rest)
   places (Pending.ClearInit a) = by (row_named image a == own_row image c.thread)
     where
-      by : (b : Bool) → let p = Pending.ClearInit a in todo_in (clearing_phase b) (p ∷ rest) (ready_for image c p (first_of rest)) ≡ clearing b p rest
+      by : (b : Bool) → let p = Pending.ClearInit a in todo_in (clearing_phase b) (p ∷ rest) (ready_for image c p (first_of rest)) ≡ clearing image b p rest
       by true = refl
       by false = refl
   places p = refl
@@ -109,7 +113,7 @@ full image c Phase.Show steps k = full-showing image c steps _
 full image c phase steps k = refl
 
 -- a phase of the thread's own next step, and any other, in which the thread is put back
-own-is : (phase : Phase) (r : Running) → is_own phase ≡ true → in_phase phase r ≡ with_todo r (todo_in phase (steps_behind r.visited r.context.value.pending) (ready_of r))
+pub own-is : (phase : Phase) (r : Running) → is_own phase ≡ true → in_phase phase r ≡ with_todo r (todo_in phase (steps_behind r.visited r.context.value.pending) (ready_of r))
 own-is Phase.Idle r h = absurd (false≢true h)
 own-is Phase.Pass r h = absurd (false≢true h)
 own-is Phase.Drop r h = absurd (false≢true h)
@@ -128,7 +132,7 @@ noting-own c (Some site) phase h = by (is_some c.noted)
     by true = h
     by false = refl
 
-first-own : (image : Image) (c : Context) (p later : Pending) → is_own (first_phase image c p later) ≡ true
+pub first-own : (image : Image) (c : Context) (p later : Pending) → is_own (first_phase image c p later) ≡ true
 first-own image c (Pending.Probe a (Amount.Bytes n)) later = refl
 first-own image c (Pending.Probe a (Amount.MessageOf b)) later = refl
 first-own image c (Pending.CopyIn a (Amount.Bytes n)) later = refl

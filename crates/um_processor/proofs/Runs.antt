@@ -16,7 +16,7 @@ use Rattle.um_processor.specs.declared.phase.Phase.{Phase}
 use Rattle.um_processor.specs.declared.running.Running.{Running}
 use Rattle.um_processor.specs.Events.{behind_event, left_behind, todo_after}
 use Rattle.um_processor.specs.Phases.{is_idle}
-use Rattle.um_processor.specs.Processors.{errands_of, processor_of, todo_behind, visiting}
+use Rattle.um_processor.specs.Processors.{errands_of, processor_of, ready_of, todo_behind, visiting}
 use Rattle.um_processor.proofs.Phased.{dropped}
 
 -- whether a step is left
@@ -52,7 +52,7 @@ module _ (image : Image) (c : Context) where
   full-steps (Pending.Arm ticks) rest = full-noting (noted_cell image rest) _ _
   full-steps (Pending.ClearInit a) rest = by (row_named image a == own_row image c.thread)
     where
-      by : (b : Bool) → is_full (clearing b (Pending.ClearInit a) rest) ≡ true
+      by : (b : Bool) → is_full (clearing image b (Pending.ClearInit a) rest) ≡ true
       by true = refl
       by false = refl
   full-steps p rest = refl
@@ -82,7 +82,7 @@ pub runs-next : (image : Image) (c : Context) (z : Running) → (processor_of z)
 runs-next image c z e = has-thread z.phase z (ap is_full e ∙ full-next image c c.pending)
 
 pub runs-behind : (image : Image) (phase : Phase) (c : Context) (r z : Running) → processor_of z ≡ behind_event image phase c r → is_idle z.phase ≡ false
-runs-behind image phase c r z e = runs-as z (behind_event image phase c r) e (full-filled image c (todo_after phase [] r))
+runs-behind image phase c r z e = runs-as z (behind_event image phase c r) e (full-filled image c (todo_after phase [] (ready_of r)))
 
 -- the same of what is left behind an event
 pub runs-left : (image : Image) (todo : Todos) (c : Context) (t : ℕ) (r z : Running) → processor_of z ≡ left_behind image todo c t r → is_idle z.phase ≡ false

@@ -17,23 +17,23 @@ use Rattle.um_processor.specs.declared.running.Running.{Running}
 use Rattle.um_processor.specs.declared.running.calls.Wanted.{Wanted}
 use Rattle.um_base.specs.declared.act.Answer.{Answer}
 use Rattle.um_processor.specs.Phases.{first_of, released, showing}
-use Rattle.um_tables.specs.Contexts.{born, steps_behind}
-use Rattle.um_processor.specs.Processors.{behind_access, ready_of, rereads_if, settling_of, with_todo}
+use Rattle.um_tables.specs.Contexts.{steps_behind}
+use Rattle.um_processor.specs.Processors.{Ready, behind_access, ready_of, rereads_if, settling_of, with_todo}
 
 -- the steps after the next one
 abbrev pub rest_of : Running → Steps
 rest_of r = drop 1 (steps_behind r.visited r.context.value.pending)
 
 -- what stands after the event of a step in a phase, with this behind an access to memory
-abbrev pub todo_after : Phase → Todos → Running → Todos
+abbrev pub todo_after : Phase → Todos → Ready → Todos
 todo_after Phase.Access tail r = released ++ tail
-todo_after Phase.Start tail r = Todo.let_go ∷ Todo.add (born r.newborn) ∷ []
-todo_after Phase.Act tail r = settling_of (ready_of r)
+todo_after Phase.Start tail r = Todo.let_go ∷ Todo.add r.born ∷ []
+todo_after Phase.Act tail r = settling_of r
 todo_after phase tail r = []
 
 -- a processor that makes the event of this step next
 abbrev pub about_to : Phase → Pending → Running → Processor
-about_to phase step r = with_todo r (Todo.show step (rest_of r) ∷ todo_after phase (behind_access step (ready_of r)) r)
+about_to phase step r = with_todo r (Todo.show step (rest_of r) ∷ todo_after phase (behind_access step (ready_of r)) (ready_of r))
 
 -- the same in the phase in which it is
 abbrev pub shows : Pending → Running → Processor
@@ -41,7 +41,7 @@ shows step r = about_to r.phase step r
 
 -- a processor that puts its thread back next
 abbrev pub about_to_park : Phase → Running → Processor
-about_to_park phase r = with_todo r (Todo.park ∷ todo_after phase [] r)
+about_to_park phase r = with_todo r (Todo.park ∷ todo_after phase [] (ready_of r))
 
 abbrev pub parks : Running → Processor
 parks r = about_to_park r.phase r
@@ -49,7 +49,7 @@ parks r = about_to_park r.phase r
 -- a processor that makes the event of its thread's next step, or puts its thread back if there is no step
 abbrev pub at_event : Phase → Running → Processor
 at_event phase r =
-    let steps = steps_behind r.visited r.context.value.pending in with_todo r (showing steps (todo_after phase (behind_access (first_of steps) (ready_of r)) r))
+    let steps = steps_behind r.visited r.context.value.pending in with_todo r (showing steps (todo_after phase (behind_access (first_of steps) (ready_of r)) (ready_of r)))
 
 abbrev pub shows_next : Running → Processor
 shows_next r = at_event r.phase r
@@ -60,16 +60,16 @@ left_behind image todo c t r = record (with_todo r []) { context = c; todo = fil
 
 -- the same where nothing of its own stands behind the event
 abbrev pub behind_event : Image → Phase → Context → Running → Processor
-behind_event image phase c r = left_behind image (todo_after phase [] r) c r.context.value.thread r
+behind_event image phase c r = left_behind image (todo_after phase [] (ready_of r)) c r.context.value.thread r
 
 -- the same, where the thread goes on so
 abbrev pub gone_by : Image → Next → Running → Processor
-gone_by image next r = left_behind image (todo_after r.phase [] r) (gone_part image (rest_of r) next r.context.value) r.context.value.thread r
+gone_by image next r = left_behind image (todo_after r.phase [] (ready_of r)) (gone_part image (rest_of r) next r.context.value) r.context.value.thread r
 
 -- the same of an act that waits, or doesn't, in the cell of a site
 abbrev pub waited_by : Image → Todos → Bool → ℕ → Next → Running → Processor
 waited_by image tail waits site next r =
-    left_behind image (todo_after r.phase tail r ++ rereads_if waits site) (gone_part image (rest_of r) next r.context.value) r.context.value.thread r
+    left_behind image (todo_after r.phase tail (ready_of r) ++ rereads_if waits site) (gone_part image (rest_of r) next r.context.value) r.context.value.thread r
 
 -- where an act that answers so is to be read behind
 abbrev pub is_wait : Answer → Bool

@@ -278,15 +278,19 @@ abbrev pub MayNext : ℕ → Image → Processor → (FineStep → Type 0) → T
 MayNext cpu image p may = (e : FineStep) → AsksFor cpu image p e → may e
 
 -- What comes of a turn of the processor of this number, given what the sites say in each case: a step was made; it was refused; none was
--- made since others are at its site; there was none to ask for.
+-- made since others are at its site; there was none to ask for. This is of a turn at the given site.
 abbrev pub TurnedAt : Site → Turn → ℕ → Image → Processor → Processor → (FineStep → Type 0) → (FineStep → Type 0) → (Site → Type 0) → Type 0 → Type 0
 TurnedAt site Turn.Made cpu image p z took shut late none = (e : FineStep) × took e × Goes cpu image p e z
 TurnedAt site Turn.Busy cpu image p z took shut late none = (e : FineStep) × shut e × AsksFor cpu image p e
 TurnedAt site Turn.Changed cpu image p z took shut late none = late site
 TurnedAt site Turn.Stuck cpu image p z took shut late none = none × IsStuck image p
 
+-- the same at the site of the step that it asks for next
 abbrev pub Turned : Turn → ℕ → Image → Processor → Processor → (FineStep → Type 0) → (FineStep → Type 0) → (Site → Type 0) → Type 0 → Type 0
-Turned turn cpu image p z took shut late none = TurnedAt (site_next image p) turn cpu image p z took shut late none
+Turned Turn.Made cpu image p z took shut late none = (e : FineStep) × took e × Goes cpu image p e z
+Turned Turn.Busy cpu image p z took shut late none = (e : FineStep) × shut e × AsksFor cpu image p e
+Turned Turn.Changed cpu image p z took shut late none = late (site_next image p)
+Turned Turn.Stuck cpu image p z took shut late none = none × IsStuck image p
 
 -- where a step was made, and where none was
 abbrev pub OnMade : Turn → Type 0 → Type 0

@@ -62,7 +62,7 @@ impl Running {
 
     /// Goes on after the event of a step by this thread, by the phase in which it stood.
     pub fn leaves(&mut self, image: &Image, thread: u8)
-        ensures { processor_of self.new ≡ left_behind image.now (todo_after self.old.phase [] self.old)
+        ensures { processor_of self.new ≡ left_behind image.now (todo_after self.old.phase [] (ready_of self.old))
             self.old.context.value thread self.old }
     {
         self.actor = Some(thread);
@@ -83,7 +83,7 @@ impl Running {
     /// The same after an act that waits in the cell of this site.
     pub fn leaves_waiting(&mut self, image: &Image, thread: u8, site: u16)
         ensures { processor_of self.new ≡ left_behind image.now
-            (todo_after self.old.phase [] self.old ++ rereads_if true site) self.old.context.value thread self.old }
+            (todo_after self.old.phase [] (ready_of self.old) ++ rereads_if true site) self.old.context.value thread self.old }
     {
         self.actor = Some(thread);
         self.rereads = true;
@@ -102,7 +102,7 @@ impl Running {
     /// The same after a wait on a futex was asked for, in the cell of this site.
     pub fn leaves_futex(&mut self, image: &Image, thread: u8, waits: bool, site: u16)
         ensures { processor_of self.new ≡ left_behind image.now
-            (todo_after self.old.phase (settling_of (ready_of self.old)) self.old ++ rereads_if waits site)
+            (todo_after self.old.phase (settling_of (ready_of self.old)) (ready_of self.old) ++ rereads_if waits site)
             self.old.context.value thread self.old }
     {
         self.actor = Some(thread);
