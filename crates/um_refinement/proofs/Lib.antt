@@ -180,6 +180,7 @@ pub mod JoinSteps
 pub mod JoinsPart
 pub mod LeaveSteps
 pub mod LookPart
+pub mod LooksListed
 pub mod NotesKept
 pub mod WaitNotes
 pub mod WaitsNoted
