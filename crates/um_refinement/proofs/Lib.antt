@@ -181,6 +181,8 @@ pub mod JoinsPart
 pub mod LeaveSteps
 pub mod LookPart
 pub mod LooksListed
+pub mod LooksMade
+pub mod NoteCells
 pub mod NotesKept
 pub mod WaitNotes
 pub mod WaitsNoted

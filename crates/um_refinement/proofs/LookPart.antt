@@ -1,20 +1,18 @@
 -- Looks are made in cells in which threads wait, after every lawful step.
-use Rattle.um_refinement.proofs.Words.{Event, More, Unseen, by_me, says_show, true≢false, unwrap_or, ◌≡◌, ℕ, ◌+◌, ◌<◌, Bool, true, false, cond, List, [], ◌∷◌, ◌++◌, Option, Some, None, refl, sym, ap, ◌∙◌, subst, ◌==◌, ◌&&◌, not, and_from, and_parts, if◌then◌else◌, nat_lt, list_all, ltb-true, eqb-true, false≢true, ROWS, THREADS, Act, Answer, Exchange, FineAct, FineStep, Image, Pending, Steps, Offers, State, ThreadIx, ThreadWord, Told, Context, Site, SiteState, Todo, Todos, Processor, act_in, answer_in, after_show, behind_step, cleaning_of, begins_cleaning, context_in, continues, dropped_at, end_calls, filled_up, fine_steps, goes_on_by, is_visit, is_word_read, next_steps, end_of_turn, outcome_in, own_row, p_next, row_named, row_number, s_next, site_after, shows, thread_after, thread_in, wakes, with_cleaned, word, Fine}
+use Rattle.um_refinement.proofs.Words.{Event, More, Unseen, by_me, says_show, true≢false, unwrap_or, ◌≡◌, ℕ, ◌+◌, ◌<◌, Bool, true, false, cond, List, [], ◌∷◌, ◌++◌, Option, Some, None, refl, sym, ap, ◌∙◌, subst, ◌==◌, ◌&&◌, not, and_from, and_parts, if◌then◌else◌, nat_lt, list_all, eqb-true, false≢true, ROWS, THREADS, Act, Answer, Exchange, FineAct, FineStep, Image, Pending, Steps, Offers, State, ThreadIx, ThreadWord, Told, Context, Site, SiteState, Todo, Todos, Processor, act_in, answer_in, after_show, behind_step, cleaning_of, begins_cleaning, context_in, continues, dropped_at, end_calls, filled_up, fine_steps, goes_on_by, is_visit, is_word_read, next_steps, end_of_turn, outcome_in, own_row, p_next, row_named, row_number, s_next, site_after, shows, thread_after, thread_in, wakes, with_cleaned, word, Fine}
 use Rattle.um_words.specs.declared.fine.Mark.{Mark}
 use Rattle.um_machine.specs.State.{is_living}
 use Rattle.um_words.specs.Threads.{is_awake}
 use Rattle.um_fine.specs.Answers.{is_done_in, is_killed, is_void, woken_in}
 use Rattle.um_fine.specs.Follows.{looks_behind, looks_for, rereads, shown_step, told_all, told_marked, waits_behind}
-use Rattle.um_fine.specs.Places.{if_patient, is_patient, may_wait, noted_cell, put_away}
+use Rattle.um_fine.specs.Places.{noted_cell, put_away}
 use Rattle.um_fine.specs.Sites.{word_of}
 use Rattle.um_refinement.specs.Stops.{LookThere, is_waiting_site, looks_well}
 use Rattle.um_refinement.proofs.Erased.{around}
-use Rattle.um_refinement.proofs.First.{none-some}
 use Rattle.um_refinement.proofs.Leaves.{Beside, Lawful, Leaves, beside as beside_it, cleans, cuts, drops, event, expires, leaves as leaves_it, nothing, passes, recycles, resumes, ticks, times_out}
 use Rattle.um_refinement.proofs.ListGrowth.{is_shown, visits_row, acted-kept, claim-kept, cleaning-kept, drop-kept, either, forms-kept, next-kept, pass-kept, take-kept, turn-kept, unless}
-use Rattle.um_refinement.proofs.MarksPart.{object-waits}
+use Rattle.um_refinement.proofs.NoteCells.{noted-well}
 use Rattle.um_refinement.proofs.Offered.{Shows, act-is, shown-offers, site-is}
-use Rattle.um_refinement.proofs.RowsPart.{named-below}
 use Rattle.um_refinement.proofs.RowSteps.{thread-sort}
 use Rattle.um_refinement.proofs.SchedulerSteps.{made-says, word-left}
 
@@ -104,31 +102,13 @@ module _ (f : Fine) (m : State) (e : FineStep) (law : Lawful f m e) (abort-below
   tail : (q : Todo) (todo : Todos) → p.todo ≡ q ∷ todo → AreWell todo
   tail q todo at = (and_parts (looks_well q) (list_all looks_well todo) (ap (list_all looks_well) (sym at) ∙ was)).1
 
-  -- The cell that a step notes.
-
-  noted-well : (q : Pending) (site : ℕ) → noted_cell f.image (q ∷ []) ≡ Some site → is_waiting_site site ≡ true
-  noted-well (Pending.Work a ask) site h = by (may_wait ask) h
-    where
-      by : (b : Bool) → if_patient b (168 + row_named f.image a) ≡ Some site → is_waiting_site site ≡ true
-      by true k = subst (λ n. is_waiting_site n ≡ true) (some-one k) (object-waits f m e law (row_named f.image a) (ltb-true (row_named f.image a) ROWS (named-below f m e law a)))
-      by false k = absurd (none-some k)
-  noted-well (Pending.Join who timeout) site h = by (is_patient timeout) h
-    where
-      by : (b : Bool) → if_patient b 308 ≡ Some site → is_waiting_site site ≡ true
-      by true k = subst (λ n. is_waiting_site n ≡ true) (some-one k) refl
-      by false k = absurd (none-some k)
-  noted-well (Pending.FutexWait a value timeout) site h = by (is_patient timeout) h
-    where
-      by : (b : Bool) → if_patient b 304 ≡ Some site → is_waiting_site site ≡ true
-      by true k = subst (λ n. is_waiting_site n ≡ true) (some-one k) refl
-      by false k = absurd (none-some k)
-  noted-well q site h = absurd (none-some h)
+  -- Behind an act that waits.
 
   waits-well : (q : Pending) (todo : Todos) → AreWell todo → AreWell (waits_behind f.image q e todo)
   waits-well q todo h = by (answer_in (act_in e.act)) (noted_cell f.image (q ∷ [])) refl
     where
       by : (answer : Answer) (site : Option ℕ) → noted_cell f.image (q ∷ []) ≡ site → AreWell (rereads f.image answer site todo)
-      by Answer.Wait (Some site) at = behind-well todo (Todo.reread site ∷ []) h (and_from (is_waiting_site site) true (noted-well q site at) refl)
+      by Answer.Wait (Some site) at = behind-well todo (Todo.reread site ∷ []) h (and_from (is_waiting_site site) true (noted-well f m e law (q ∷ []) site at) refl)
       by Answer.Wait None at = h
       by (Answer.Now reply) site at = h
 
