@@ -183,6 +183,8 @@ pub mod LookPart
 pub mod LooksListed
 pub mod LooksMade
 pub mod NoteCells
+pub mod Lying
+pub mod LooksPart
 pub mod NotesKept
 pub mod WaitNotes
 pub mod WaitsNoted

@@ -123,7 +123,7 @@ module _ (f : Fine) (m : State) (e : FineStep) (law : Lawful f m e) (t : ℕ) (f
   Fine-list todo = AreSo Ok t todo
 
   -- the word that a step leaves of a thread
-  word-now : e.site ≡ Site.thread t → thread_in e.word ≡ word later t
+  pub word-now : e.site ≡ Site.thread t → thread_in e.word ≡ word later t
   word-now site =
       ap thread_in (word-left f m e law ∙ ap (λ i. word_of (s_next f.image (f.sites i) e)) site)
       ∙ (ap (λ (s : SiteState). thread_in (word_of (site_after f.image s e.act e.moved))) (thread-sort t (f.sites (Site.thread t)) (law.rel.sorts (Site.thread t)))

@@ -73,7 +73,7 @@ module _ (f : Fine) (m : State) (e : FineStep) (law : Lawful f m e) (s : State) 
   open is-behind f m e law use {frame}
 
   -- A thread whose steps are over stays so while its processor goes on.
-  stays-over : (q : Todo) (todo : Todos) → p.todo ≡ q ∷ todo → is_end q ≡ false → is_over p.context ≡ true → is_over now.context ≡ true
+  pub stays-over : (q : Todo) (todo : Todos) → p.todo ≡ q ∷ todo → is_end q ≡ false → is_over p.context ≡ true → is_over now.context ≡ true
   stays-over q todo at goes over = by s how
     where
       off : (is_over p.context ≡ false) → is_over now.context ≡ true

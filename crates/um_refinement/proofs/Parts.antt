@@ -18,6 +18,7 @@ use Rattle.um_refinement.proofs.CutPart.{AreAborted, cut-part}
 use Rattle.um_refinement.proofs.ExpiryPart.{expiry-part}
 use Rattle.um_refinement.proofs.JoinsPart.{joins-part}
 use Rattle.um_refinement.proofs.LookPart.{look-part}
+use Rattle.um_refinement.proofs.LooksPart.{looks-part}
 use Rattle.um_refinement.proofs.MarksPart.{marks-part}
 use Rattle.um_refinement.proofs.Offered.{begins-nothing}
 use Rattle.um_refinement.proofs.OwedPart.{owed-part}
@@ -30,7 +31,7 @@ use Rattle.um_refinement.proofs.TimerPart.{timer-part}
 use Rattle.um_refinement.proofs.UnarmedPart.{unarmed-part}
 use Rattle.um_refinement.proofs.WaitersFound.{WaitersWait}
 use Rattle.um_refinement.proofs.WaitersKnown.{UntilsAre, WaitersHold, holds-known, untils-known}
-use Rattle.um_refinement.specs.Stops.{CutComes, LooksFit, NoteIs, ShutIs}
+use Rattle.um_refinement.specs.Stops.{CutComes, NoteIs, ShutIs}
 use Rattle.um_refinement.proofs.DomainPart.{domain-part}
 use Rattle.um_refinement.proofs.DomainsKnown.{started-placed}
 use Rattle.um_refinement.proofs.DonePart.{done-part}
@@ -115,7 +116,6 @@ module _ (f : Fine) (m : State) (e : FineStep) (law : Lawful f m e) where
   pub record ToShow (s : State) (t : ℕ) : Type 0 where
     pub note : NoteIs later s t
     pub cut_comes : CutComes later s t
-    pub looks : LooksFit later t
     pub shut : ShutIs later s t
 
   -- the relation holds after the step
@@ -139,7 +139,7 @@ module _ (f : Fine) (m : State) (e : FineStep) (law : Lawful f m e) where
               note = (more t l).note;
               cut = cut-part f m e law s how t l known.tells known.aborted told;
               cut_comes = (more t l).cut_comes;
-              looks = (more t l).looks;
+              looks = looks-part f m e law s how t l;
               sleep = sleep-part f m e law s how t l;
               shut = (more t l).shut;
               timeout = timeout-part f m e law known.holding suits.waits t l s how goes known.waits known.untils;
