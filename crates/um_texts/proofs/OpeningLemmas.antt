@@ -22,10 +22,10 @@ use Rattle.um_machine.specs.State.{State, nobody, vacant, thread_at, object_at, 
 use Rattle.um_machine.specs.Joins.{has_ended, is_ending}
 use Rattle.um_machine.specs.Objects.{is_gone}
 use Rattle.um_machine.specs.Order.{Steps}
-use Rattle.um_machine.specs.Run.{Offers, goes, skips_inherit, skips_drops, begins, exits, stops, leaves, tends, objects_from, boot_thread, index_or, granted, booted_one, booted, loaded, blank, opening}
+use Rattle.um_machine.specs.Run.{setup_contents, Offers, goes, skips_inherit, skips_drops, begins, exits, stops, leaves, tends, objects_from, boot_thread, index_or, granted, booted_one, booted, loaded, blank, opening}
 use Rattle.um_texts.proofs.PlainLemmas.{all_get}
 use Rattle.um_texts.proofs.IdentityLemmas.{is_real, has_own}
-use Rattle.um_texts.proofs.StateLemmas.{IsKept, is_acting, has_steps, are_fit, kept_thread, kept_pair, kept_bytes}
+use Rattle.um_texts.proofs.StateLemmas.{runs, IsKept, is_acting, has_steps, are_fit, kept_thread, kept_pair, kept_bytes}
 use Rattle.um_texts.proofs.OwnLemmas.{IsSound, own_of_row, own_index, index_is}
 
 -- Blank states.
@@ -45,6 +45,20 @@ not_gone boots from [] x = rw same_all refl
 not_gone boots from (o ∷ os) zero = refl
 not_gone boots from (o ∷ os) (suc x) = not_gone boots (from + 1) os x
 
+still : (setup : Setup) → runs (setup_contents setup) ≡ false
+still (Setup.Sem count limit) = refl
+still Setup.Mutex = refl
+still (Setup.Msgq size most) = refl
+still (Setup.Stack entries) = refl
+still (Setup.Pipe size) = refl
+still Setup.Timer = refl
+still setup = refl
+
+not_running : (boots : List Boot) (from : ℕ) (os : List ObjectDef) (x : ℕ) → runs (slice_index_or (objects_from boots from os) x vacant).contents ≡ false
+not_running boots from [] x = rw same_all refl
+not_running boots from (o ∷ os) zero = still o.setup
+not_running boots from (o ∷ os) (suc x) = not_running boots (from + 1) os x
+
 kept_blank : (image : Image) → length image.objects ≤ STATIC_ROWS → IsKept image (blank image)
 unfolding blank
 kept_blank image few = record {
@@ -54,6 +68,7 @@ kept_blank image few = record {
   fit = λ t. fit_of (slice_index_or (replicate THREADS nobody) t nobody) (same_all THREADS t nobody);
   real = λ t x h. let none : pair_at (blank image) t x ≡ false = no_pair ROWS x t (replicate THREADS false) (same_all THREADS t false) in absurd (never (sym none ∙ h));
   gone = λ x h. let none : is_gone (object_at (blank image) x).status ≡ false = not_gone image.boots 0 image.objects x in absurd (never (sym none ∙ h));
+  timers = λ x h. let none : runs (object_at (blank image) x).contents ≡ false = not_running image.boots 0 image.objects x in absurd (never (sym none ∙ h));
 }
   where
     never : false ≡ true → ⊥
