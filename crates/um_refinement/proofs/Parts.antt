@@ -44,6 +44,7 @@ use Rattle.um_refinement.proofs.HeldDomainPart.{held-domain-part}
 use Rattle.um_refinement.proofs.HeldPart.{held-part}
 use Rattle.um_refinement.proofs.IdlePart.{idle-part}
 use Rattle.um_refinement.proofs.Kept.{RestsFirst, lists-kept, rouses-bare, sorts-kept}
+use Rattle.um_refinement.proofs.KillsKnown.{aborted-known}
 use Rattle.um_refinement.proofs.LawfulSteps.{Suits, abort-below, begins, lawful-next}
 use Rattle.um_refinement.proofs.Leaves.{HasStep, Lawful, Leaves, beside, cleans, drops, event, mine, nothing, passes, recycles, resumes}
 use Rattle.um_refinement.proofs.ListBlocks.{blocks-kept}
@@ -215,7 +216,7 @@ kept-step image cpus described known ps ss m e rel reach by taken =
       timed = timed-known image cpus m reach;
       holding = holds-known image cpus described known m reach;
       untils = untils-known image cpus described known next.state onwards;
-      aborted = ?aborted;
+      aborted = aborted-known image cpus described known next.state onwards;
     } in
     record {
       state = next.state;
