@@ -43,7 +43,7 @@ module _ {f : Fine} {m : State} {k : ℕ} {e : FineStep} {rest : Steps} {todo : 
   me : ℕ
   me = (f.processors k).context.thread
 
-  join-says : join_answer (joins f) (f.processors k).context.thread who.0 timeout ≡ answer_in (act_in e.act)
+  pub join-says : join_answer (joins f) (f.processors k).context.thread who.0 timeout ≡ answer_in (act_in e.act)
   join-says =
       let act = shows f.image (f.processors k) (Pending.Join who timeout) e.act in
       let here = subst (λ (s : SiteState). site_answers f.image s e.moved act ≡ act) (joins-sort (f.sites Site.joins) (h.rel.sorts Site.joins)).1 (says-at h Site.joins act (site-is h) (act-is h)) in

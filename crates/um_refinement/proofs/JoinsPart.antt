@@ -29,7 +29,7 @@ use Rattle.um_refinement.proofs.Writes.{reads-after}
 -- The access-matrix machine.
 
 -- the steps that write nothing of who waits to join
-abbrev Untouched : Pending → Type 0
+abbrev pub Untouched : Pending → Type 0
 Untouched (Pending.Join who timeout) = ⊥
 Untouched Pending.Left = ⊥
 Untouched (Pending.TimeOut who) = ⊥
@@ -55,7 +55,7 @@ joins-untouched m t x q rest h = reads-after (λ s. s.joins) no_join join-left (
 
 -- The fine machine.
 
-cell-untouched : (image : Image) (p : Processor) (j : Joins) (moved : Exchange) (q : Pending) (act : Act) → Untouched q → join_after_act j moved (says_step image p q act) ≡ j
+pub cell-untouched : (image : Image) (p : Processor) (j : Joins) (moved : Exchange) (q : Pending) (act : Act) → Untouched q → join_after_act j moved (says_step image p q act) ≡ j
 cell-untouched image p j moved (Pending.Join who timeout) act h = absurd h
 cell-untouched image p j moved Pending.Left act h = absurd h
 cell-untouched image p j moved (Pending.TimeOut who) act h = absurd h

@@ -178,6 +178,7 @@ pub mod FutexSteps
 pub mod HandReads
 pub mod JoinSteps
 pub mod JoinsPart
+pub mod ShutAlone
 pub mod LeaveSteps
 pub mod LookPart
 pub mod LooksListed

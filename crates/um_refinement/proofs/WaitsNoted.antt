@@ -17,7 +17,7 @@ use Rattle.um_refinement.proofs.TimeoutPart.{row-site}
 use Rattle.um_refinement.proofs.WaitNotes.{acts-patient}
 use Rattle.um_refinement.proofs.WaitSteps.{Begins}
 
-abbrev is_wait : Answer → Bool
+abbrev pub is_wait : Answer → Bool
 is_wait Answer.Wait = true
 is_wait answer = false
 
