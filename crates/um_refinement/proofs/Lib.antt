@@ -186,6 +186,7 @@ pub mod LooksMade
 pub mod NoteCells
 pub mod Lying
 pub mod LooksPart
+pub mod NoteNumbers
 pub mod NotesKept
 pub mod WaitNotes
 pub mod WaitsNoted

@@ -53,7 +53,7 @@ aborted-kept w (FineAct.Unseen u) off h = h
 module _ (f : Fine) (m : State) (e : FineStep) (law : Lawful f m e) (s : State) (how : Leaves f m e s) (t : ℕ) (few : t < THREADS) where
   open around f e use {later, processor as p, now}
 
-  number-grows : (word f t).number ≤ (word later t).number
+  pub number-grows : (word f t).number ≤ (word later t).number
   number-grows = by (same_site e.site (Site.thread t)) refl
     where
       by : (b : Bool) → same_site e.site (Site.thread t) ≡ b → (word f t).number ≤ (word later t).number
