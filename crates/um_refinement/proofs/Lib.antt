@@ -179,6 +179,7 @@ pub mod HandReads
 pub mod JoinSteps
 pub mod JoinsPart
 pub mod ShutAlone
+pub mod ShutDead
 pub mod LeaveSteps
 pub mod LookPart
 pub mod LooksListed
