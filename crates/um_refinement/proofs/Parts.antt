@@ -14,6 +14,7 @@ use Rattle.um_refinement.proofs.ContextsPart.{running-field}
 use Rattle.um_refinement.proofs.AddedPart.{added-field}
 use Rattle.um_refinement.proofs.ArmsKnown.{AreTimed, timed-known}
 use Rattle.um_refinement.proofs.ClockPart.{clock-part}
+use Rattle.um_refinement.proofs.CutComesPart.{cut-comes-part}
 use Rattle.um_refinement.proofs.CutPart.{AreAborted, cut-part}
 use Rattle.um_refinement.proofs.ExpiryPart.{expiry-part}
 use Rattle.um_refinement.proofs.JoinsPart.{joins-part}
@@ -31,7 +32,7 @@ use Rattle.um_refinement.proofs.TimerPart.{timer-part}
 use Rattle.um_refinement.proofs.UnarmedPart.{unarmed-part}
 use Rattle.um_refinement.proofs.WaitersFound.{WaitersWait}
 use Rattle.um_refinement.proofs.WaitersKnown.{UntilsAre, WaitersHold, holds-known, untils-known}
-use Rattle.um_refinement.specs.Stops.{CutComes, NoteIs, ShutIs}
+use Rattle.um_refinement.specs.Stops.{NoteIs, ShutIs}
 use Rattle.um_refinement.proofs.DomainPart.{domain-part}
 use Rattle.um_refinement.proofs.DomainsKnown.{started-placed}
 use Rattle.um_refinement.proofs.DonePart.{done-part}
@@ -116,7 +117,6 @@ module _ (f : Fine) (m : State) (e : FineStep) (law : Lawful f m e) where
   -- of each thread, what is still to be shown
   pub record ToShow (s : State) (t : ℕ) : Type 0 where
     pub note : NoteIs later s t
-    pub cut_comes : CutComes later s t
     pub shut : ShutIs later s t
 
   -- the relation holds after the step
@@ -139,7 +139,7 @@ module _ (f : Fine) (m : State) (e : FineStep) (law : Lawful f m e) where
               ready = ready-part f m e law suits.tells t l;
               note = (more t l).note;
               cut = cut-part f m e law s how t l known.tells known.aborted told;
-              cut_comes = (more t l).cut_comes;
+              cut_comes = cut-comes-part f m e law known.holding suits.waits t l s how;
               looks = looks-part f m e law s how t l;
               sleep = sleep-part f m e law s how t l;
               shut = (more t l).shut;
