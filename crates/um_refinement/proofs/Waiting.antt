@@ -14,7 +14,7 @@ use Rattle.um_refinement.proofs.MemoryPart.{InDomains}
 use Rattle.um_refinement.proofs.Reachable.{IsSound, reachable-sound}
 use Rattle.um_refinement.proofs.RoomKnown.{events-stand, has-room}
 use Rattle.um_refinement.proofs.Stuck.{HasRoom}
-use Rattle.um_refinement.proofs.StuckComplete.{none-ready}
+use Rattle.um_refinement.proofs.StuckComplete.{none-due, none-next, none-ready}
 use Rattle.um_refinement.proofs.StuckEvents.{AreOrderly, EventsStand, IsHeldMove, guarded}
 use Rattle.um_refinement.proofs.StuckLists.{Waits, only, read-waits, write-waits}
 use Rattle.um_refinement.proofs.SuitsKnown.{kept-known, proper-known, tells-known}
@@ -33,7 +33,7 @@ module _ (f : Fine) (m : State) (rel : Rel f m) (proper : AreProper m.image m) (
       omega (arith, few, most, same)
 
   by-list : (todo : Todos) → (f.processors k).todo ≡ todo → Waits todo → WaitsFor f k
-  by-list [] at w = WaitsFor.ready_thread at (none-ready f m rel room threads k halted at few-run)
+  by-list [] at w = WaitsFor.ready_thread at (none-ready f m rel room threads k halted at few-run) (none-due f m rel room threads k halted at) (none-next f m rel room threads k halted at)
   by-list (Todo.show q rest ∷ todo) at w = held-move f k q rest todo at (guarded f m rel proper all sound room events orderly k q rest todo halted at)
   by-list (Todo.read_claim which ∷ todo) at w = WaitsFor.writer which todo at (read-waits f m rel proper all sound room events orderly k which todo halted at).1
   by-list (Todo.write_claim d ∷ todo) at w = WaitsFor.readers d todo at (write-waits f m rel proper all sound room events orderly k d todo halted at).1
@@ -59,7 +59,7 @@ waits-for image cpus described can = by (none-or-some (length image.objects))
         → (k : ℕ) → IsHalted (left_by image cpus h) k → WaitsFor (left_by image cpus h) k
     by (inl none) [] run counts k halted =
         let boots = ap (λ (i : Image). i.boots) (opening-image image) ∙ no-boots image image.boots described.lawful.boots none in
-        WaitsFor.ready_thread refl (ap (λ (bs : List Boot). map (boot_index (opening image)) bs) boots)
+        WaitsFor.ready_thread refl (ap (λ (bs : List Boot). map (boot_index (opening image)) bs) boots) refl refl
     by (inl none) (e ∷ h) run counts k halted = absurd (no-steps image cpus described none e h run)
     by (inr some) h run counts k halted =
         let known = (is_opening image (is_sited image described.lawful described.few some) described.lawful).known in
