@@ -127,8 +127,14 @@ module _ (image : Image) (cpu : ℕ) (r : Running) (runs : is_idle r.phase ≡ f
   pair-goes cleans new cs ends woken who x t a w b ec clean et ea eb en z ez =
       let made : ℕ → ℕ → FineStep = λ i j. row_made image cpu x w (RowAct.Sweep (to_thread i) (to_thread who) (to_addr j)) in
       let thread : (processor_of r).context.thread ≡ t = me ∙ sym et in
+      let actor : ℕ → ℕ → Option ℕ = λ i j. if is_visit (made i j).act then r.actor else Some i in
+      let left : standing new ends woken (processor_of z)
+      ≡ record (processor_of r) { todo = (clean_pairs who (x + 1) cs ++ block_if image x b) ++ behind ends woken; actor = actor (processor_of r).context.thread (addr_of image x) } =
+      ap (λ (q : Running). standing new ends woken (processor_of q)) (ez ∙ (λ i. record r { actor = actor (sym thread i) (ea i) }))
+      ∙ ap (standing new ends woken) (acted-in r.phase r (actor (processor_of r).context.thread (addr_of image x)))
+      ∙ ap (λ (q : Processor). record q { actor = actor (processor_of r).context.thread (addr_of image x) }) (stood new (clean_pairs who (x + 1) cs ++ block_if image x b) ends woken en) in
       subst (λ (q : Processor × FineStep × Processor). Goes cpu image q.0 q.1 q.2)
-      (λ i. (sym (stood cleans (Todo.clean_pair who x ∷ cs) ends woken ec) i, made (thread i) (sym ea i), sym (stood new (clean_pairs who (x + 1) cs ++ block_if image x b) ends woken en) i))
+      (λ i. (sym (stood cleans (Todo.clean_pair who x ∷ cs) ends woken ec) i, made (thread i) (sym ea i), sym left i))
       (pair_cleaned image cpu (processor_of r) (behind ends woken) (front-before ends woken (errands_of r.phase r) front) cs who x w b clean
       (eb ∙ (λ i. begins_cleaning (made (sym thread i) (ea i)))))
 
