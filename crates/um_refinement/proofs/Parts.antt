@@ -1,5 +1,5 @@
 -- Every lawful step keeps the relation: its parts together, and in the states that a run of a described image reaches all that they ask for.
-use Rattle.um_refinement.proofs.Words.{◌<◌, Fits, THREADS, thread_at, sym, subst, ◌≡◌, ℕ, length, refl, ◌∙◌, Image, IsLawful, Pending, Steps, to_thread, opening, State, core_of, IsSited, IsKnown, IsDescribed, ByOneOf, cpu_of, site_of, Processor, SiteMay, SiteState, FineStep, Site, Fine, Rel, wrote, effects_of, next_of, ContextsAre, image-wrote, shared-went}
+use Rattle.um_refinement.proofs.Words.{◌+◌, [], Bool, Context, None, Option, ROWS, Some, false, is_some, object_at, own_row, runs_thread, true, word, ◌<◌, Fits, THREADS, thread_at, sym, subst, ◌≡◌, ℕ, length, refl, ◌∙◌, Image, IsLawful, Pending, Steps, to_thread, opening, State, core_of, IsSited, IsKnown, IsDescribed, ByOneOf, cpu_of, site_of, Processor, SiteMay, SiteState, FineStep, Site, Fine, Rel, wrote, effects_of, next_of, ContextsAre, image-wrote, shared-went}
 use Rattle.um_machine.specs.Table as T
 use Rattle.um_refinement.proofs.AwayPart.{away-part}
 use Rattle.um_refinement.proofs.CallsKnown.{RestsHoldNothing, own-known}
@@ -32,7 +32,13 @@ use Rattle.um_refinement.proofs.TimerPart.{timer-part}
 use Rattle.um_refinement.proofs.UnarmedPart.{unarmed-part}
 use Rattle.um_refinement.proofs.WaitersFound.{WaitersWait}
 use Rattle.um_refinement.proofs.WaitersKnown.{UntilsAre, WaitersHold, holds-known, untils-known}
-use Rattle.um_refinement.specs.Stops.{NoteIs, ShutIs}
+use Rattle.um_fine.specs.Joins.{is_shut}
+use Rattle.um_refinement.specs.Fine.{joins}
+use Rattle.um_refinement.specs.Stops.{LiesAt, cell_site, clears_own, noted_at, starts, waits_at}
+use Rattle.um_refinement.proofs.NoteCells.{note-cell}
+use Rattle.um_refinement.proofs.NoteNumbers.{note-number}
+use Rattle.um_refinement.proofs.ShutAlone.{shut-alone}
+use Rattle.um_refinement.proofs.ShutDead.{shut-dead}
 use Rattle.um_refinement.proofs.DomainPart.{domain-part}
 use Rattle.um_refinement.proofs.DomainsKnown.{started-placed}
 use Rattle.um_refinement.proofs.DonePart.{done-part}
@@ -114,10 +120,15 @@ module _ (f : Fine) (m : State) (e : FineStep) (law : Lawful f m e) where
     pub untils : UntilsAre s
     pub aborted : AreAborted s
 
-  -- of each thread, what is still to be shown
+  -- of each thread, what is still to be shown of its note, and of who is shut
   pub record ToShow (s : State) (t : ℕ) : Type 0 where
-    pub note : NoteIs later s t
-    pub shut : ShutIs later s t
+    pub there : (c : Context) → LiesAt later t c → is_some (word later t).note ≡ is_some c.noted
+    pub waits : (c : ℕ) → c < ROWS + 2 → waits_at s t c ≡ true → (word later t).note ≡ Some (cell_site c)
+    pub kept : (x : ℕ) (c : Context) → x < ROWS + 2 → waits_at s t x ≡ true → LiesAt later t c → c.noted ≡ Some (noted_at later x t)
+    pub rest : (thread_at s t).pending ≡ [] → (word later t).note ≡ None
+    pub marked : is_shut (joins later) t ≡ false → (object_at s (own_row f.image t)).init ≡ true
+    pub clears : (k : ℕ) → k < f.cpus → runs_thread t (later.processors k) ≡ true → clears_own later (later.processors k) (later.processors k).todo ≡ true → is_shut (joins later) t ≡ true
+    pub begins : (k : ℕ) → k < f.cpus → starts (later.processors k).todo ≡ Some t → is_shut (joins later) t ≡ false
 
   -- the relation holds after the step
   pub related : OwnRows f.image → InDomains f m → Suits f m → IsLawful m.image → AreProper m.image m → DuesKnown m → NamesHeld m → GivesHeld m → MovesIn m (length f.image.domains) → AreQueues m
@@ -137,12 +148,12 @@ module _ (f : Fine) (m : State) (e : FineStep) (law : Lawful f m e) where
               told = told;
               held = held-part f m e law t l;
               ready = ready-part f m e law suits.tells t l;
-              note = (more t l).note;
+              note = record { there = (more t l).there; number = note-number f m e law s how t l; cell = note-cell f m e law t l; waits = (more t l).waits; kept = (more t l).kept; rest = (more t l).rest };
               cut = cut-part f m e law s how t l known.tells known.aborted told;
               cut_comes = cut-comes-part f m e law known.holding suits.waits t l s how;
               looks = looks-part f m e law s how t l;
               sleep = sleep-part f m e law s how t l;
-              shut = (more t l).shut;
+              shut = record { dead = shut-dead f m e law proper t l s how; alone = shut-alone f m e law t l s how; marked = (more t l).marked; clears = (more t l).clears; begins = (more t l).begins };
               timeout = timeout-part f m e law known.holding suits.waits t l s how goes known.waits known.untils;
             };
         rows = λ x l.
