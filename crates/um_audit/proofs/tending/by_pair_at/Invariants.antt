@@ -1,4 +1,4 @@
-use Rattle.std.proofs.Common.{◌≡◌, ℕ, ◌<◌, ◌≤◌, vec_capacity}
+use Rattle.std.proofs.Common.{ℕ, ◌<◌, ◌≤◌, vec_capacity}
 use Rattle.um_machine.specs.declared.pending.Pending.TheVariants as Pending
 use Rattle.um_machine.specs.Order.{to_thread}
 use Rattle.um_trace.specs.declared.lines.TheConstants.{LINE_ROOM}
