@@ -180,6 +180,7 @@ pub mod JoinSteps
 pub mod JoinsPart
 pub mod ShutAlone
 pub mod ShutDead
+pub mod ShutBegins
 pub mod LeaveSteps
 pub mod LookPart
 pub mod LooksListed

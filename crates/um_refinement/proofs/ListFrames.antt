@@ -75,7 +75,7 @@ module _ (image : Image) where
   fine-framed c (Pending.DomMove d who) rest = ((who, rest, refl), ((λ site at. act_alone), tt))
   fine-framed c (Pending.Start who script stack priority mode) rest =
       let q = Pending.Start who script stack priority mode in
-      let start : IsStart (Todo.show q rest ∷ Todo.let_go ∷ Todo.add (newborn image c q) ∷ []) = (q, rest, newborn image c q, refl) in
+      let start : IsStart who.0 (Todo.show q rest ∷ Todo.let_go ∷ Todo.add (newborn image c q) ∷ []) = (q, rest, newborn image c q, refl, eq-eqb who.0 who.0 refl) in
       (inr (who.0, Todo.show q rest ∷ Todo.let_go ∷ Todo.add (newborn image c q) ∷ [], refl, start), (start, ((λ site at. absurd (none≢some site at)), (inr (newborn image c q, refl), (refl, tt)))))
   fine-framed c (Pending.Work a ask) rest = act-framed c (Pending.Work a ask) rest
   fine-framed c (Pending.Join who timeout) rest = act-framed c (Pending.Join who timeout) rest

@@ -191,6 +191,10 @@ module _ (f : Fine) (m : State) (e : FineStep) (law : Lawful f m e) (proper : Ar
   shut-where _ (recycles x rest todo at l said chosen) = quiet _ said (λ j. refl)
   shut-where _ (beside_it u x q how chosen started) = on-beside how
 
+  pub shut-by : (s : State) → Leaves f m e s → is_shut (joins later) t ≡ true → (is_shut (joins f) t ≡ true) ⊎ ((todo : Todos) × (p.todo ≡ Todo.leave ∷ todo) × (p.context.thread ≡ t))
+  unfolding Where Leaving
+  shut-by s left shut = shut-where s left shut
+
   -- Who lives after a step lived, or is started by it.
 
   Starting : Type 0

@@ -80,7 +80,7 @@ module _ (f : Fine) (m : State) (rel : Rel f m) (proper : AreProper m.image m) (
   offered-behind : (c : Context) (rest : Todos) → Behind f.image Todo.hold rest → Fits f.image c rest → is_over c ≡ false
   offered-behind c rest (inl (access, e, (q, steps, over, at, on, done))) fit =
       offered-on f.image c q steps (subst (Fits f.image c) (e ∙ ap (λ (z : Todos). Todo.read_claim None ∷ Todo.region_load ∷ z) at) fit).0
-  offered-behind c rest (inr (who, start, e, (q, steps, d, at))) fit = offered-on f.image c q steps (subst (Fits f.image c) (e ∙ ap (λ (z : Todos). Todo.unshut who ∷ z) at) fit).0
+  offered-behind c rest (inr (who, start, e, (q, steps, d, at, one))) fit = offered-on f.image c q steps (subst (Fits f.image c) (e ∙ ap (λ (z : Todos). Todo.unshut who ∷ z) at) fit).0
 
   hold : (k : ℕ) (rest : Todos) → IsHalted f k → (f.processors k).todo ≡ Todo.hold ∷ rest → ⊥
   hold k rest l at = by (word f (f.processors k).context.thread).held refl

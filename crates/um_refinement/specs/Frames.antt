@@ -1,5 +1,5 @@
 -- What follows, on a processor's list, each unseen step that belongs to an event.
-use Rattle.std.specs.Prelude.{◌≡◌, ◌⊎◌, ℕ, true, [], ◌∷◌, Some, None}
+use Rattle.std.specs.Prelude.{◌≡◌, ◌⊎◌, ℕ, Bool, true, false, ◌==◌, [], ◌∷◌, Some, None}
 use Rattle.um_base.specs.declared.image.Image.{Image}
 use Rattle.um_base.specs.declared.names.Addr.{Addr}
 use Rattle.um_base.specs.declared.names.ThreadIx.{ThreadIx}
@@ -46,9 +46,13 @@ access_over over = Todo.read_done None ∷ Todo.let_go ∷ over
 abbrev pub IsAccess : Todos → Type 0
 IsAccess todo = (q : Pending) × (rest : Steps) × (over : Todos) × (todo ≡ Todo.show q rest ∷ access_over over) × OnMemory q × IsWaitOver over
 
--- a start is next
-abbrev pub IsStart : Todos → Type 0
-IsStart todo = (q : Pending) × (rest : Steps) × (c : Context) × (todo ≡ Todo.show q rest ∷ Todo.let_go ∷ Todo.add c ∷ [])
+-- a start of this thread is next
+abbrev pub starts_one : ℕ → Pending → Bool
+starts_one who (Pending.Start t script stack priority mode) = t.0 == who
+starts_one who q = false
+
+abbrev pub IsStart : ℕ → Todos → Type 0
+IsStart who todo = (q : Pending) × (rest : Steps) × (c : Context) × (todo ≡ Todo.show q rest ∷ Todo.let_go ∷ Todo.add c ∷ []) × (starts_one who q ≡ true)
 
 -- a sleeper may be roused before a turn is done with
 abbrev pub IsSleepOver : Todos → Type 0
@@ -70,10 +74,10 @@ abbrev pub Behind : Image → Todo → Todos → Type 0
 Behind image (Todo.show q rest) todo = (site : ℕ) → noted_cell image (q ∷ []) ≡ Some site → IsActOver todo
 Behind image Todo.hold todo =
     ((access : Todos) × (todo ≡ Todo.read_claim None ∷ Todo.region_load ∷ access) × IsAccess access)
-    ⊎ ((who : ℕ) × (start : Todos) × (todo ≡ Todo.unshut who ∷ start) × IsStart start)
+    ⊎ ((who : ℕ) × (start : Todos) × (todo ≡ Todo.unshut who ∷ start) × IsStart who start)
 Behind image Todo.let_go todo = IsWaitOver todo ⊎ ((c : Context) × (todo ≡ Todo.add c ∷ []))
 Behind image (Todo.read_claim None) todo = (access : Todos) × (todo ≡ Todo.region_load ∷ access) × IsAccess access
-Behind image (Todo.unshut who) todo = IsStart todo
+Behind image (Todo.unshut who) todo = IsStart who todo
 Behind image (Todo.settle deadline mark) todo = (todo ≡ []) ⊎ ((site : ℕ) × (todo ≡ Todo.reread site ∷ []))
 Behind image (Todo.reread site) todo = todo ≡ []
 Behind image (Todo.note site) todo = IsNoted image site todo
