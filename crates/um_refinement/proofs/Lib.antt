@@ -189,7 +189,9 @@ pub mod NoteCells
 pub mod Lying
 pub mod LooksPart
 pub mod NoteNumbers
+pub mod NoteSteps
 pub mod NotesKept
+pub mod NotesThere
 pub mod WaitNotes
 pub mod WaitsNoted
 pub mod SearchSteps

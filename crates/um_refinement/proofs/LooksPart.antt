@@ -64,7 +64,7 @@ module _ (f : Fine) (m : State) (e : FineStep) (law : Lawful f m e) (s : State) 
       by false off = let is = ap (λ (w : ThreadWord). w.number) (word-else f m e law t few off) in omega (arith, is)
 
   -- whose own part lies somewhere isn't started
-  part-of : (d : Context) → LiesAt f t d → IsOf f m d × (is_over d ≡ false) × (d.thread ≡ t)
+  pub part-of : (d : Context) → LiesAt f t d → IsOf f m d × (is_over d ≡ false) × (d.thread ≡ t)
   part-of _ (runs_it k l running on) =
       let parts = and_parts _ _ running in ((law.rel.contexts.running k l parts.0).of on, on, eqb-true (f.processors k).context.thread t parts.1)
   part-of _ (parked c there) = let is = law.rel.contexts.parked t c there in (is.0, rests-on c is.2, is.1)

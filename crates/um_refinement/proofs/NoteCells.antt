@@ -19,11 +19,11 @@ use Rattle.um_refinement.proofs.StepReads.{is-behind}
 some-one : {a b : ℕ} → Some a ≡ Some b → a ≡ b
 some-one {a} h = ap (λ (o : Option ℕ). unwrap_or o a) h
 
-abbrev is_note : FineAct → Bool
+abbrev pub is_note : FineAct → Bool
 is_note (FineAct.Unseen (Unseen.Note site)) = true
 is_note act = false
 
-abbrev is_note_step : Todo → Bool
+abbrev pub is_note_step : Todo → Bool
 is_note_step (Todo.note site) = true
 is_note_step q = false
 
@@ -78,7 +78,7 @@ module _ (f : Fine) (m : State) (e : FineStep) (law : Lawful f m e) where
       by false k = absurd (none-some k)
   noted-well (q ∷ rest) site h = absurd (none-some h)
 
-  plain-act : (q : Todo) (todo : Todos) → p.todo ≡ q ∷ todo → is_note_step q ≡ false → is_note e.act ≡ false
+  pub plain-act : (q : Todo) (todo : Todos) → p.todo ≡ q ∷ todo → is_note_step q ≡ false → is_note e.act ≡ false
   plain-act q todo at other = ap is_note (made-says f m e law (q ∷ todo) at) ∙ by q other
     where
       rests : (r : Pending) → is_note (begins f.image p r e.act) ≡ false
@@ -101,7 +101,7 @@ module _ (f : Fine) (m : State) (e : FineStep) (law : Lawful f m e) where
       by (Todo.clean_pair who x) h = either-plain (is_visit e.act) _ _ refl refl
       by q h = refl
 
-  idle-plain : p.todo ≡ [] → is_note e.act ≡ false
+  pub idle-plain : p.todo ≡ [] → is_note e.act ≡ false
   idle-plain at = ap is_note (made-says f m e law [] at) ∙ either-plain (is_due_act e.act) _ _ refl (either-plain (is_tick e.act) _ _ refl (turn e.moved))
     where
       turn : (moved : Exchange) → is_note (says_turn f.image p moved) ≡ false

@@ -1,5 +1,5 @@
 -- Every lawful step keeps the relation: its parts together, and in the states that a run of a described image reaches all that they ask for.
-use Rattle.um_refinement.proofs.Words.{◌+◌, [], Bool, Context, None, Option, ROWS, Some, false, is_some, object_at, own_row, runs_thread, true, word, ◌<◌, Fits, THREADS, thread_at, sym, subst, ◌≡◌, ℕ, length, refl, ◌∙◌, Image, IsLawful, Pending, Steps, to_thread, opening, State, core_of, IsSited, IsKnown, IsDescribed, ByOneOf, cpu_of, site_of, Processor, SiteMay, SiteState, FineStep, Site, Fine, Rel, wrote, effects_of, next_of, ContextsAre, image-wrote, shared-went}
+use Rattle.um_refinement.proofs.Words.{◌+◌, [], Bool, Context, None, Option, ROWS, Some, false, object_at, own_row, runs_thread, true, word, ◌<◌, Fits, THREADS, thread_at, sym, subst, ◌≡◌, ℕ, length, refl, ◌∙◌, Image, IsLawful, Pending, Steps, to_thread, opening, State, core_of, IsSited, IsKnown, IsDescribed, ByOneOf, cpu_of, site_of, Processor, SiteMay, SiteState, FineStep, Site, Fine, Rel, wrote, effects_of, next_of, ContextsAre, image-wrote, shared-went}
 use Rattle.um_machine.specs.Table as T
 use Rattle.um_refinement.proofs.AwayPart.{away-part}
 use Rattle.um_refinement.proofs.CallsKnown.{RestsHoldNothing, own-known}
@@ -37,6 +37,7 @@ use Rattle.um_refinement.specs.Fine.{joins}
 use Rattle.um_refinement.specs.Stops.{LiesAt, cell_site, clears_own, noted_at, starts, waits_at}
 use Rattle.um_refinement.proofs.NoteCells.{note-cell}
 use Rattle.um_refinement.proofs.NoteNumbers.{note-number}
+use Rattle.um_refinement.proofs.NotesThere.{note-there}
 use Rattle.um_refinement.proofs.ShutAlone.{shut-alone}
 use Rattle.um_refinement.proofs.ShutDead.{shut-dead}
 use Rattle.um_refinement.proofs.DomainPart.{domain-part}
@@ -122,7 +123,6 @@ module _ (f : Fine) (m : State) (e : FineStep) (law : Lawful f m e) where
 
   -- of each thread, what is still to be shown of its note, and of who is shut
   pub record ToShow (s : State) (t : ℕ) : Type 0 where
-    pub there : (c : Context) → LiesAt later t c → is_some (word later t).note ≡ is_some c.noted
     pub waits : (c : ℕ) → c < ROWS + 2 → waits_at s t c ≡ true → (word later t).note ≡ Some (cell_site c)
     pub kept : (x : ℕ) (c : Context) → x < ROWS + 2 → waits_at s t x ≡ true → LiesAt later t c → c.noted ≡ Some (noted_at later x t)
     pub rest : (thread_at s t).pending ≡ [] → (word later t).note ≡ None
@@ -148,7 +148,7 @@ module _ (f : Fine) (m : State) (e : FineStep) (law : Lawful f m e) where
               told = told;
               held = held-part f m e law t l;
               ready = ready-part f m e law suits.tells t l;
-              note = record { there = (more t l).there; number = note-number f m e law s how t l; cell = note-cell f m e law t l; waits = (more t l).waits; kept = (more t l).kept; rest = (more t l).rest };
+              note = record { there = note-there f m e law s how t l; number = note-number f m e law s how t l; cell = note-cell f m e law t l; waits = (more t l).waits; kept = (more t l).kept; rest = (more t l).rest };
               cut = cut-part f m e law s how t l known.tells known.aborted told;
               cut_comes = cut-comes-part f m e law known.holding suits.waits t l s how;
               looks = looks-part f m e law s how t l;
