@@ -35,6 +35,7 @@ pub mod HeapSteps
 pub mod HeldRows
 pub mod WorkSteps
 pub mod OwnKept
+pub mod OwnObjects
 pub mod OfKept
 pub mod VisitSteps
 pub mod DropSteps
@@ -180,6 +181,8 @@ pub mod JoinSteps
 pub mod JoinsPart
 pub mod ShutAlone
 pub mod ShutDead
+pub mod ShutMarked
+pub mod ShutOpened
 pub mod ShutBegins
 pub mod LeaveSteps
 pub mod LookPart

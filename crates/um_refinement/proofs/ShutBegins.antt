@@ -65,7 +65,7 @@ module _ (image : Image) where
   starts-waited site _ access_alone = refl
   starts-waited site _ access_settled = refl
 
-  starts-reads : Reads image starts None
+  pub starts-reads : Reads image starts None
   starts-reads = record { empty = refl; passed = starts-passed; expanded = starts-none; begins = refl; exits = refl; waited = starts-waited }
 
   -- Who is started next on a list is claimed by the steps of its thread.
@@ -78,10 +78,10 @@ module _ (image : Image) where
       by (O.dropped e) = (ap (claims image t) e ∙ one, ap waits e)
   offered-claims c q rest t one offered = absurd (false≢true one)
 
-  some-number : {a b : ℕ} → Some a ≡ Some b → a ≡ b
+  pub some-number : {a b : ℕ} → Some a ≡ Some b → a ≡ b
   some-number {a} h = ap (λ (o : Option ℕ). unwrap_or o a) h
 
-  list-claims : (c : Context) (t : ℕ) (todo : Todos) → Fits image c todo → starts todo ≡ Some t → (claims image t c.pending ≡ true) × (waits c.pending ≡ false) × (O.is_over c ≡ false)
+  pub list-claims : (c : Context) (t : ℕ) (todo : Todos) → Fits image c todo → starts todo ≡ Some t → (claims image t c.pending ≡ true) × (waits c.pending ≡ false) × (O.is_over c ≡ false)
   list-claims c t [] fits h = absurd (false≢true (ap is_some h))
   list-claims c t (Todo.show q rest ∷ todo) fits h = by q fits h
     where
