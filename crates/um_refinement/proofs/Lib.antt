@@ -184,6 +184,7 @@ pub mod ShutDead
 pub mod ShutMarked
 pub mod ShutOpened
 pub mod ShutBegins
+pub mod ShutClears
 pub mod LeaveSteps
 pub mod LookPart
 pub mod LooksListed

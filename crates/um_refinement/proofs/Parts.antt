@@ -1,5 +1,5 @@
 -- Every lawful step keeps the relation: its parts together, and in the states that a run of a described image reaches all that they ask for.
-use Rattle.um_refinement.proofs.Words.{◌+◌, [], Bool, Context, None, Option, ROWS, Some, false, object_at, own_row, runs_thread, true, word, ◌<◌, Fits, THREADS, thread_at, sym, subst, ◌≡◌, ℕ, length, refl, ◌∙◌, Image, IsLawful, Pending, Steps, to_thread, opening, State, core_of, IsSited, IsKnown, IsDescribed, ByOneOf, cpu_of, site_of, Processor, SiteMay, SiteState, FineStep, Site, Fine, Rel, wrote, effects_of, next_of, ContextsAre, image-wrote, shared-went}
+use Rattle.um_refinement.proofs.Words.{◌+◌, [], Context, None, ROWS, Some, false, object_at, own_row, true, word, ◌<◌, Fits, THREADS, thread_at, sym, subst, ◌≡◌, ℕ, length, refl, ◌∙◌, Image, IsLawful, Pending, Steps, to_thread, opening, State, core_of, IsSited, IsKnown, IsDescribed, ByOneOf, cpu_of, site_of, Processor, SiteMay, SiteState, FineStep, Site, Fine, Rel, wrote, effects_of, next_of, ContextsAre, image-wrote, shared-went}
 use Rattle.um_machine.specs.Table as T
 use Rattle.um_refinement.proofs.AwayPart.{away-part}
 use Rattle.um_refinement.proofs.CallsKnown.{RestsHoldNothing, own-known}
@@ -34,11 +34,13 @@ use Rattle.um_refinement.proofs.WaitersFound.{WaitersWait}
 use Rattle.um_refinement.proofs.WaitersKnown.{UntilsAre, WaitersHold, holds-known, untils-known}
 use Rattle.um_fine.specs.Joins.{is_shut}
 use Rattle.um_refinement.specs.Fine.{joins}
-use Rattle.um_refinement.specs.Stops.{LiesAt, cell_site, clears_own, noted_at, starts, waits_at}
+use Rattle.um_refinement.specs.Stops.{LiesAt, cell_site, noted_at, waits_at}
 use Rattle.um_refinement.proofs.NoteCells.{note-cell}
 use Rattle.um_refinement.proofs.NoteNumbers.{note-number}
 use Rattle.um_refinement.proofs.NotesThere.{note-there}
 use Rattle.um_refinement.proofs.ShutAlone.{shut-alone}
+use Rattle.um_refinement.proofs.ShutBegins.{begins-part}
+use Rattle.um_refinement.proofs.ShutClears.{clears-part}
 use Rattle.um_refinement.proofs.ShutDead.{shut-dead}
 use Rattle.um_refinement.proofs.DomainPart.{domain-part}
 use Rattle.um_refinement.proofs.DomainsKnown.{started-placed}
@@ -127,8 +129,6 @@ module _ (f : Fine) (m : State) (e : FineStep) (law : Lawful f m e) where
     pub kept : (x : ℕ) (c : Context) → x < ROWS + 2 → waits_at s t x ≡ true → LiesAt later t c → c.noted ≡ Some (noted_at later x t)
     pub rest : (thread_at s t).pending ≡ [] → (word later t).note ≡ None
     pub marked : is_shut (joins later) t ≡ false → (object_at s (own_row f.image t)).init ≡ true
-    pub clears : (k : ℕ) → k < f.cpus → runs_thread t (later.processors k) ≡ true → clears_own later (later.processors k) (later.processors k).todo ≡ true → is_shut (joins later) t ≡ true
-    pub begins : (k : ℕ) → k < f.cpus → starts (later.processors k).todo ≡ Some t → is_shut (joins later) t ≡ false
 
   -- the relation holds after the step
   pub related : OwnRows f.image → InDomains f m → Suits f m → IsLawful m.image → AreProper m.image m → DuesKnown m → NamesHeld m → GivesHeld m → MovesIn m (length f.image.domains) → AreQueues m
@@ -153,7 +153,7 @@ module _ (f : Fine) (m : State) (e : FineStep) (law : Lawful f m e) where
               cut_comes = cut-comes-part f m e law known.holding suits.waits t l s how;
               looks = looks-part f m e law s how t l;
               sleep = sleep-part f m e law s how t l;
-              shut = record { dead = shut-dead f m e law proper t l s how; alone = shut-alone f m e law t l s how; marked = (more t l).marked; clears = (more t l).clears; begins = (more t l).begins };
+              shut = record { dead = shut-dead f m e law proper t l s how; alone = shut-alone f m e law t l s how; marked = (more t l).marked; clears = clears-part f m e law proper t l s how; begins = begins-part f m e law proper t l s how };
               timeout = timeout-part f m e law known.holding suits.waits t l s how goes known.waits known.untils;
             };
         rows = λ x l.

@@ -1,25 +1,24 @@
 -- A thread that is started next isn't shut, after every lawful step: it is opened right before, and only its own end shuts it.
-use Rattle.um_refinement.proofs.Words.{◌≡◌, ◌⊎◌, inl, inr, ℕ, ◌<◌, Bool, true, false, cond, List, [], ◌∷◌, ◌++◌, Option, Some, None, refl, sym, ap, ◌∙◌, subst, arith, ◌==◌, ◌&&◌, if◌then◌else◌, is_some, nat_lt, unwrap_or, and_parts, eqb-true, eq-eqb, false≢true, true≢false, get_or-set_same, slice_index_or, slice_set, THREADS, ROWS, Image, ThreadIx, Amount, Pending, Steps, Thread, State, is_living, thread_at, to_thread, own_row, row_named, claims, Call, call_is, is_empty, waits, FineAct, Unseen, FineStep, Context, Todo, Todos, Processor, fine_steps, p_next, says_show, sized, Fine, Fits, IsOf, IsOffered, Behind, behind_shown, cpu_of, same_cpu}
+use Rattle.um_refinement.proofs.Words.{◌≡◌, ◌⊎◌, inl, inr, ℕ, ◌<◌, Bool, true, false, cond, [], ◌∷◌, ◌++◌, Option, Some, None, refl, sym, ap, ◌∙◌, subst, arith, ◌==◌, if◌then◌else◌, is_some, unwrap_or, and_parts, eqb-true, eq-eqb, false≢true, true≢false, get_or-set_same, slice_index_or, slice_set, THREADS, Image, Amount, Pending, Steps, Thread, State, thread_at, to_thread, own_row, row_named, claims, Call, call_is, waits, FineAct, Unseen, FineStep, Context, Todo, Todos, fine_steps, p_next, Fine, Fits, IsOffered, behind_shown, runs}
 use Rattle.um_machine.specs.Joins as Plain
-use Rattle.um_fine.specs.Joins.{Joins, is_shut, join_after}
+use Rattle.um_fine.specs.Joins.{Joins, is_shut}
 use Rattle.um_fine.specs.Places.{armed_for, clearing, noted_cell, noting, on_memory, settling}
 use Rattle.um_refinement.specs.Fine.{joins}
-use Rattle.um_refinement.specs.Frames.{AreFramed, IsActOver, IsStart, access_alone, access_settled, act_alone, act_settled, starts_one}
+use Rattle.um_refinement.specs.Frames.{AreFramed, IsActOver, access_alone, access_settled, act_alone, act_settled, starts_one}
 use Rattle.um_refinement.specs.Offers as O
 use Rattle.um_refinement.specs.Stops.{starts}
 use Rattle.um_refinement.proofs.CallsProper.{AreProper}
 use Rattle.um_refinement.proofs.Erased.{around}
-use Rattle.um_refinement.proofs.HandReads.{offered-noted, read-runs}
+use Rattle.um_refinement.proofs.HandReads.{read-runs}
 use Rattle.um_refinement.proofs.LeaveSteps.{leave-ending}
 use Rattle.um_refinement.proofs.Leaves.{Lawful, Leaves}
-use Rattle.um_refinement.proofs.ListGrips.{read-rests}
 use Rattle.um_refinement.proofs.ListTails.{Reads, adds-pass, is_passed, takes-read, whole-read}
 use Rattle.um_refinement.proofs.Offered.{own-unless}
 use Rattle.um_refinement.proofs.ParkedPart.{joins-later}
 use Rattle.um_refinement.proofs.SchedulerSteps.{made-at, made-says}
 use Rattle.um_refinement.proofs.ShutDead.{shut-by}
 use Rattle.um_refinement.proofs.StepReads.{reads-last}
-use Rattle.um_refinement.proofs.StepsLeft.{offered-awake, offered-on}
+use Rattle.um_refinement.proofs.StepsLeft.{offered-on}
 
 starts-passed : (q : Todo) (todo : Todos) → is_passed q ≡ true → starts (q ∷ todo) ≡ starts todo
 starts-passed (Todo.unshut who) todo h = absurd (false≢true h)
@@ -104,18 +103,23 @@ module _ (image : Image) where
 module _ (f : Fine) (m : State) (e : FineStep) (law : Lawful f m e) (proper : AreProper m.image m) (t : ℕ) (few : t < THREADS) (s : State) (left : Leaves f m e s) where
   open around f e use {later, processor as p, now}
 
-  -- who is started next has no step left
-  no-steps : (k : ℕ) → k < f.cpus → starts (f.processors k).todo ≡ Some t → (thread_at m t).pending ≡ []
-  no-steps k l next =
+  -- a thread that a running processor's steps claim has no step left
+  pub claimed-idle : (k : ℕ) → k < f.cpus → runs (f.processors k) ≡ true → (claims f.image t (f.processors k).context.pending ≡ true) × (waits (f.processors k).context.pending ≡ false) × (O.is_over (f.processors k).context ≡ false)
+      → (thread_at m t).pending ≡ []
+  claimed-idle k l run claim =
       let c = (f.processors k).context in
-      let claim = list-claims f.image c t (f.processors k).todo (law.rel.processors k l).list.fits next in
-      let run = read-runs starts refl (λ who told todo. refl) (λ todo. refl) (λ deadline mark todo. refl) law.rel l (ap is_some next) in
       let of = (law.rel.contexts.running k l run).of claim.2 in
       let pending : c.pending ≡ (thread_at m c.thread).pending = ap (λ (z : Thread). z.pending) (own-unless of claim.1) in
       let claimed = law.sound.known.claimed in
       let here : claims m.image t (thread_at m c.thread).pending ≡ true = ap (λ (i : Image). claims i t (thread_at m c.thread).pending) law.rel.image ∙ (ap (claims f.image t) (sym pending) ∙ claim.0) in
       let free = claimed.free c.thread t (ap (λ (z : Call). claims m.image t z.pending) (call_is m c.thread) ∙ here) in
       sym (ap (λ (z : Call). z.pending) (call_is m t)) ∙ claimed.idle t free
+
+  -- who is started next has no step left
+  pub no-steps : (k : ℕ) → k < f.cpus → starts (f.processors k).todo ≡ Some t → (thread_at m t).pending ≡ []
+  no-steps k l next =
+      claimed-idle k l (read-runs starts refl (λ who told todo. refl) (λ todo. refl) (λ deadline mark todo. refl) law.rel l (ap is_some next))
+      (list-claims f.image (f.processors k).context t (f.processors k).todo (law.rel.processors k l).list.fits next)
 
   -- so it doesn't tell of its end
   not-leaving : (k : ℕ) → k < f.cpus → starts (f.processors k).todo ≡ Some t → (todo : Todos) → p.todo ≡ Todo.leave ∷ todo → p.context.thread ≡ t → ⊥

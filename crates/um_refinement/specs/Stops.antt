@@ -2,6 +2,7 @@
 use Rattle.std.specs.Prelude.{◌≡◌, ◌≢◌, ◌⊎◌, ℕ, ◌+◌, ◌<◌, ◌≤◌, Bool, true, false, ◌==◌, ◌&&◌, nat_lt, if◌then◌else◌, List, [], ◌∷◌, Option, Some, None, is_some, slice_index_or, length, ◌||◌, nat_le}
 use Rattle.std.specs.List.{list_all, list_any}
 use Rattle.um_base.specs.declared.limits.TheConstants.{FUTEX_CELL, JOIN_CELL, ROWS, THREADS}
+use Rattle.um_base.specs.declared.image.Image.{Image}
 use Rattle.um_base.specs.Places.{own_row}
 use Rattle.um_machine.specs.declared.pending.Pending.{Pending}
 use Rattle.um_machine.specs.declared.thread.Life.{Life}
@@ -121,10 +122,17 @@ pub data IsRouseComing (f : Fine) (t : ℕ) : Type 0 where
 pub record SleepIs (f : Fine) (t : ℕ) : Type 0 where
   pub comes : (c : Context) → asleep_at (joins f) t ≡ Some c → IsRouseComing f t
 
--- a processor clears its own thread's object next, and has told all who wait for that
+-- the object of a thread is cleared on a list, and all who wait for its end were told
+abbrev pub clears : Image → ℕ → Todos → Bool
+clears image t [] = false
+clears image t (Todo.leave ∷ todo) = false
+clears image t (Todo.show (Pending.ClearInit a) rest ∷ todo) = row_named image a == own_row image t
+clears image t (Todo.show q rest ∷ todo) = false
+clears image t (q ∷ todo) = clears image t todo
+
+-- a processor clears its own thread's object
 abbrev pub clears_own : Fine → Processor → Todos → Bool
-clears_own f p (Todo.show (Pending.ClearInit a) rest ∷ todo) = row_named f.image a == own_row f.image p.context.thread
-clears_own f p todo = false
+clears_own f p todo = clears f.image p.context.thread todo
 
 -- a processor starts a thread next, which may be joined by now
 abbrev pub starts : Todos → Option ℕ
