@@ -6,10 +6,14 @@ use Rattle.std.specs.Option.{option_and_then}
 use Rattle.um_base.specs.declared.names.Timeout.{Timeout}
 use Rattle.um_invariants.proofs.SitedImages.{index_small}
 use Rattle.um_machine.specs.Order.{aborts, answer_void, arms}
-use Rattle.um_refinement.proofs.Words.{THREADS, STATIC_THREADS, STATIC_ROWS, setup_at, setup_thread, thread_of_row, ◌-◌, ◌≡◌, ◌⊎◌, inl, inr, ℕ, zero, suc, ◌+◌, ◌*◌, ◌<◌, Bool, true, false, List, [], ◌∷◌, ◌++◌, length, Option, Some, None, refl, sym, ap, ◌∙◌, subst, arith, ◌==◌, ◌&&◌, ◌||◌, ℤ, if◌then◌else◌, is_some, nat_lt, slice_get, slice_index_or, slice_set, unwrap_or, list_all, and_parts, false≢true, ltb-true, Cause, Ask, Image, Instr, Options, Errno, Kind, Mode, ThreadIx, IsLawful, is_lawful_line, is_within, own_row, row_at, thread_of_addr, Pending, Thread, Steps, answer_error, answer_zero, buffered, creates, privileged, steps_of, to_addr, to_thread, work, instruction_at, value_of, IsRow, IsSited, IsStatic, are_lawful_scripts, is_lawful_script, is_number_below, number_of, lines_of, script_lines, Names, keeps}
+use Rattle.um_refinement.proofs.Words.{THREADS, STATIC_THREADS, STATIC_ROWS, setup_at, setup_thread, thread_of_row, ◌-◌, ◌≡◌, ◌⊎◌, inl, inr, ℕ, zero, suc, ◌+◌, ◌*◌, ◌<◌, Bool, true, false, List, [], ◌∷◌, ◌++◌, length, Option, Some, None, refl, sym, ap, ◌∙◌, subst, arith, ◌==◌, ◌&&◌, ◌||◌, ℤ, if◌then◌else◌, is_some, nat_lt, slice_get, slice_index_or, slice_set, unwrap_or, list_all, and_parts, false≢true, ltb-true, Cause, Ask, Image, Instr, Options, Errno, Kind, Mode, ThreadIx, IsLawful, is_lawful_line, is_within, own_row, row_at, thread_of_addr, Pending, Thread, Steps, answer_error, answer_zero, buffered, creates, privileged, steps_of, to_addr, to_thread, work, instruction_at, value_of, IsRow, IsSited, IsStatic, are_lawful_scripts, is_lawful_script, is_number_below, number_of, lines_of, script_lines, Names, keeps, has_kind, row_kind}
 use Rattle.um_base.specs.declared.image.Script.{Script}
 use Rattle.um_base.specs.declared.names.Ref.{Ref}
 use Rattle.um_machine.specs.declared.thread.Place.{Place}
+
+-- the object of a thread index is its own
+abbrev pub HasOwn : Image → ℕ → Type 0
+HasOwn image t = thread_of_row image (own_row image t) ≡ Some t
 
 -- nothing is held
 abbrev pub Bare : List Bool → Type 0
@@ -36,8 +40,10 @@ module _ (image : Image) where
   Proper checked (Pending.Abort who ∷ rest) = (who.0 < THREADS) × Proper checked rest
   Proper checked (Pending.Suspend who ∷ rest) = (who.0 < THREADS) × Proper checked rest
   Proper checked (Pending.Continue who ∷ rest) = (who.0 < THREADS) × Proper checked rest
+  Proper checked (Pending.Join who timeout ∷ rest) = HasOwn image who.0 × Proper checked rest
   Proper checked (Pending.Check a kind want refusal ∷ rest) =
-      (x : ℕ) → row_at image a.0 ≡ Some x → slice_index_or (slice_set checked x true) x false ≡ true → Proper (slice_set checked x true) rest
+      (x : ℕ) → row_at image a.0 ≡ Some x → slice_index_or (slice_set checked x true) x false ≡ true → has_kind kind (Some (row_kind image x)) ≡ true
+      → Proper (slice_set checked x true) rest
   Proper checked (Pending.Work a ask ∷ rest) = Names image checked a.0 × Proper checked rest
   Proper checked (Pending.Publish a ∷ rest) = Names image checked a.0 × Proper checked rest
   Proper checked (Pending.SetInit a strict undo ∷ rest) = Names image checked a.0 × Proper checked rest
@@ -89,8 +95,8 @@ module _ (image : Image) (checked : List Bool) where
       (thread-named, (stack-named, proper-inherit options.inherit _ _ refl (λ other. refl)))
 
 proper-buffered : (image : Image) (checked : List Bool) (a : ℕ) (kind : Kind) (lawful : Bool) (size : ℕ) (ask : Ask) → Proper image checked (buffered a kind lawful size ask)
-proper-buffered image checked a kind true size ask = λ x e h. ((x, e, h), ((x, e, h), refl))
-proper-buffered image checked a kind false size ask = λ x e h. refl
+proper-buffered image checked a kind true size ask = λ x e h k. ((x, e, h), ((x, e, h), refl))
+proper-buffered image checked a kind false size ask = λ x e h k. refl
 
 number-below : (n : ℕ) (domain : Ref) → is_number_below n domain ≡ true → number_of domain < n
 number-below n (Ref.At i) h = ltb-true i n h
@@ -104,6 +110,17 @@ owned image sited checked a x e h = by (sited.owns a x e)
     by : (own_row image (thread_of_addr image a) < length image.objects) ⊎ (own_row image (thread_of_addr image a) ≡ x) → IsStatic image checked (own_row image (thread_of_addr image a))
     by (inl l) = inl l
     by (inr same) = inr (subst (IsRow image) (sym same) (sited.found a x e).0, ap (λ r. slice_index_or checked r false) same ∙ h)
+
+-- the thread whose object is at an address of a thread object
+thread-kind : (kind : Kind) → has_kind (Some Kind.Thread) (Some kind) ≡ true → kind ≡ Kind.Thread
+thread-kind Kind.Thread h = refl
+thread-kind kind h = absurd (false≢true h)
+
+own-of : (image : Image) → IsSited image → (a x : ℕ) → row_at image a ≡ Some x → has_kind (Some Kind.Thread) (Some (row_kind image x)) ≡ true → HasOwn image (thread_of_addr image a)
+own-of image sited a x e kind =
+    let (w, at, own) = sited.threads x (sited.found a x e).0 (thread-kind (row_kind image x) kind) in
+    let same : thread_of_addr image a ≡ w = ap (λ (o : Option ℕ). unwrap_or (option_and_then (thread_of_row image) o) 0) e ∙ ap (λ (o : Option ℕ). unwrap_or o 0) at in
+    subst (HasOwn image) (sym same) (ap (thread_of_row image) own ∙ at)
 
 -- an address names one of the machine's threads
 row-below : (image : Image) → IsLawful image → (x : ℕ) (low inside : Bool) → nat_lt (STATIC_THREADS + (x - STATIC_ROWS)) THREADS ≡ inside → (o : Option ℕ)
@@ -141,21 +158,21 @@ module _ (image : Image) (sited : IsSited image) (below : (a : ℕ) → thread_o
   proper-steps i (Instr.DomainRemove domain part) lawful =
       proper-privileged image me.checked me.mode _ (number-below (length image.domains) domain (and_parts _ _ lawful).0, refl)
   proper-steps i (Instr.DomainMove domain thread) lawful =
-      proper-privileged image me.checked me.mode _ (λ x e h. (number-below (length image.domains) domain (and_parts _ _ lawful).0, refl))
+      proper-privileged image me.checked me.mode _ (λ x e h k. (number-below (length image.domains) domain (and_parts _ _ lawful).0, refl))
   proper-steps i (Instr.UserMode script) lawful = proper-privileged image me.checked me.mode _ none
-  proper-steps i (Instr.AllGrant object) lawful = proper-privileged image me.checked me.mode _ (λ x e h. ((x, e, h), refl))
+  proper-steps i (Instr.AllGrant object) lawful = proper-privileged image me.checked me.mode _ (λ x e h k. ((x, e, h), refl))
   proper-steps i (Instr.Grant object thread) lawful =
-      λ y f g x e h. (owned image sited (slice_set (slice_set me.checked y true) x true) (value_of me.registers thread) y f (keeps (slice_set me.checked y true) y x g), refl)
-  proper-steps i (Instr.Revoke object thread) lawful = proper-privileged image me.checked me.mode _ (λ y f g x e h. refl)
-  proper-steps i (Instr.Release object) lawful = λ x e h. refl
+      λ y f g j x e h k. (owned image sited (slice_set (slice_set me.checked y true) x true) (value_of me.registers thread) y f (keeps (slice_set me.checked y true) y x g), refl)
+  proper-steps i (Instr.Revoke object thread) lawful = proper-privileged image me.checked me.mode _ (λ y f g j x e h k. refl)
+  proper-steps i (Instr.Release object) lawful = λ x e h k. refl
   proper-steps i (Instr.Create thread stack size script priority options) lawful =
-      λ y f g x e h. proper-creates image (slice_set (slice_set me.checked y true) x true) me.mode _ _ _ _ _ _ options _ (y, f, keeps (slice_set me.checked y true) y x g) (x, e, h)
-  proper-steps i (Instr.NameSet thread addr) lawful = λ x e h. (owned image sited (slice_set me.checked x true) (value_of me.registers thread) x e h, refl)
+      λ y f g j x e h k. proper-creates image (slice_set (slice_set me.checked y true) x true) me.mode _ _ _ _ _ _ options _ (y, f, keeps (slice_set me.checked y true) y x g) (x, e, h)
+  proper-steps i (Instr.NameSet thread addr) lawful = λ x e h k. (owned image sited (slice_set me.checked x true) (value_of me.registers thread) x e h, refl)
   proper-steps i (Instr.SemInit object count limit) lawful =
       let c = value_of me.registers count in
       let l = value_of me.registers limit in
-      λ x e h. proper-init image (slice_set me.checked x true) (value_of me.registers object) x e h (Ask.SemInit c l) (l == 0 || nat_lt l c)
-  proper-steps i (Instr.MutexInit object) lawful = λ x e h. ((x, e, h), ((x, e, h), refl))
+      λ x e h k. proper-init image (slice_set me.checked x true) (value_of me.registers object) x e h (Ask.SemInit c l) (l == 0 || nat_lt l c)
+  proper-steps i (Instr.MutexInit object) lawful = λ x e h k. ((x, e, h), ((x, e, h), refl))
   proper-steps i (Instr.MsgqInit object msg_size max_msgs) lawful =
       let size = value_of me.registers msg_size in
       let most = value_of me.registers max_msgs in
@@ -166,20 +183,20 @@ module _ (image : Image) (sited : IsSited image) (below : (a : ℕ) → thread_o
   proper-steps i (Instr.PipeInit object size) lawful =
       let most = value_of me.registers size in
       proper-buffered image me.checked (value_of me.registers object) Kind.Pipe (is_within 1 256 most) most (Ask.PipeInit most (unwrap_or me.pool 0))
-  proper-steps i (Instr.SemTake object timeout) lawful = λ x e h. proper-arms image (slice_set me.checked x true) timeout _ ((x, e, h), refl)
-  proper-steps i (Instr.MutexLock object timeout) lawful = λ x e h. proper-arms image (slice_set me.checked x true) timeout _ ((x, e, h), refl)
-  proper-steps i (Instr.MsgqPut object addr timeout) lawful = λ x e h. proper-arms image (slice_set me.checked x true) timeout _ ((x, e, h), refl)
-  proper-steps i (Instr.MsgqGet object addr timeout) lawful = λ x e h. proper-arms image (slice_set me.checked x true) timeout _ ((x, e, h), refl)
-  proper-steps i (Instr.StackPop object addr timeout) lawful = λ x e h. proper-arms image (slice_set me.checked x true) timeout _ ((x, e, h), refl)
-  proper-steps i (Instr.PipeWrite object addr length timeout) lawful = λ x e h. proper-arms image (slice_set me.checked x true) timeout _ ((x, e, h), refl)
-  proper-steps i (Instr.PipeRead object addr length timeout) lawful = λ x e h. proper-arms image (slice_set me.checked x true) timeout _ ((x, e, h), refl)
-  proper-steps i (Instr.Abort thread) lawful = λ x e h. proper-aborts image (slice_set me.checked x true) t _ (below _)
-  proper-steps i (Instr.Join thread timeout) lawful = λ x e h. proper-arms image (slice_set me.checked x true) timeout _ refl
-  proper-steps i (Instr.Suspend thread) lawful = λ x e h. (below _, refl)
-  proper-steps i (Instr.Continue thread) lawful = λ x e h. (below _, refl)
+  proper-steps i (Instr.SemTake object timeout) lawful = λ x e h k. proper-arms image (slice_set me.checked x true) timeout _ ((x, e, h), refl)
+  proper-steps i (Instr.MutexLock object timeout) lawful = λ x e h k. proper-arms image (slice_set me.checked x true) timeout _ ((x, e, h), refl)
+  proper-steps i (Instr.MsgqPut object addr timeout) lawful = λ x e h k. proper-arms image (slice_set me.checked x true) timeout _ ((x, e, h), refl)
+  proper-steps i (Instr.MsgqGet object addr timeout) lawful = λ x e h k. proper-arms image (slice_set me.checked x true) timeout _ ((x, e, h), refl)
+  proper-steps i (Instr.StackPop object addr timeout) lawful = λ x e h k. proper-arms image (slice_set me.checked x true) timeout _ ((x, e, h), refl)
+  proper-steps i (Instr.PipeWrite object addr length timeout) lawful = λ x e h k. proper-arms image (slice_set me.checked x true) timeout _ ((x, e, h), refl)
+  proper-steps i (Instr.PipeRead object addr length timeout) lawful = λ x e h k. proper-arms image (slice_set me.checked x true) timeout _ ((x, e, h), refl)
+  proper-steps i (Instr.Abort thread) lawful = λ x e h k. proper-aborts image (slice_set me.checked x true) t _ (below _)
+  proper-steps i (Instr.Join thread timeout) lawful = λ x e h k. proper-arms image (slice_set me.checked x true) timeout _ (own-of image sited (value_of me.registers thread) x e k, refl)
+  proper-steps i (Instr.Suspend thread) lawful = λ x e h k. (below _, refl)
+  proper-steps i (Instr.Continue thread) lawful = λ x e h k. (below _, refl)
   proper-steps i (Instr.FutexWait addr value timeout) lawful = proper-arms image me.checked timeout _ refl
   proper-steps i (Instr.FutexWake addr all) lawful = refl
-  proper-steps i _ lawful = λ x e h. ((x, e, h), refl)
+  proper-steps i _ lawful = λ x e h k. ((x, e, h), refl)
 
 -- Lines of a lawful image.
 

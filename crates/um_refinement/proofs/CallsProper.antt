@@ -1,7 +1,7 @@
 -- The steps that are left of each thread's call are proper in every state that a run of a described image reaches: each step of the
 -- access-matrix machine keeps that.
 use Rattle.um_machine.specs.Run.{leaves, stops}
-use Rattle.um_refinement.proofs.Words.{thread_of_addr, ◌<◌, ◌≡◌, ℕ, ◌+◌, Bool, true, false, List, [], ◌∷◌, length, Option, Some, None, refl, sym, ap, ◌∙◌, subst, arith, if◌then◌else◌, nat_lt, slice_index_or, slice_set, true≢false, get_or-set_same, Event, Image, Instr, ROWS, THREADS, Addr, Errno, Kind, Mode, Policy, Want, IsLawful, is_lawful_line, row_at, Pending, Refusal, Thread, Change, Next, changed, checked_way, gone, steps_by, told_way, verdict, Steps, fatal_steps, steps_of, Offers, Runs, begins, exits, goes, skips_drops, skips_inherit, State, instruction_at, is_living, no_rows, nobody, thread_at, with_thread, Ignores, all_other, each-after, next_of, HoldsOfWays, way-left, Call, at_set, call_is, core_of, IsKnown, below_rows, passed, row_is, IsSited, call_of, none_checked, image_move, known_step, step_move, tends, false≢true}
+use Rattle.um_refinement.proofs.Words.{thread_of_addr, ◌<◌, ◌≡◌, ℕ, ◌+◌, Bool, true, false, List, [], ◌∷◌, length, Option, Some, None, refl, sym, ap, ◌∙◌, subst, arith, if◌then◌else◌, nat_lt, slice_index_or, slice_set, true≢false, get_or-set_same, Event, Image, Instr, ROWS, THREADS, Addr, Errno, Kind, Mode, Policy, Want, IsLawful, is_lawful_line, row_at, Pending, Refusal, Thread, Change, Next, changed, checked_way, gone, steps_by, told_way, verdict, Steps, fatal_steps, steps_of, Offers, Runs, begins, exits, goes, skips_drops, skips_inherit, State, instruction_at, is_living, no_rows, nobody, thread_at, with_thread, Ignores, all_other, each-after, next_of, HoldsOfWays, way-left, Call, at_set, call_is, core_of, IsKnown, below_rows, passed, row_is, IsSited, call_of, none_checked, image_move, known_step, step_move, tends, false≢true, kind_is, object_at, row_has, row_kind}
 use Rattle.um_machine.specs.Table as T
 use Rattle.um_refinement.proofs.CallSteps.{Bare, Proper, line-lawful, proper-steps, thread-below}
 use Rattle.um_refinement.proofs.StepsLeft.{fatal-left}
@@ -179,7 +179,9 @@ module _ (m : State) (t x : ℕ) where
     checks a kind want refusal rest lives h (Some e) said = (lives, refused-proper m.image me.checked me.mode refusal e rest)
     checks a kind want refusal rest lives h None said =
         let p = passed m t kind want (row_at m.image a.0) said in
-        let y = p.0 in (lives, subst (λ n. Proper m.image (slice_set me.checked n true) rest) (sym (row_is m a y p.1)) (h y p.1 (passed-held m known t a.0 y p.1)))
+        let y = p.0 in
+        let has = row_has kind (object_at m y).kind (row_kind m.image y) p.3 (λ k e. known.claimed.kinds y k (kind_is m y ∙ e)) in
+        (lives, subst (λ n. Proper m.image (slice_set me.checked n true) rest) (sym (row_is m a y p.1)) (h y p.1 (passed-held m known t a.0 y p.1) has))
 
     line : (instr : Option Instr) → instruction_at m.image me.place ≡ instr → IsLine m.image instr
     line None e = tt
@@ -212,6 +214,7 @@ module _ (m : State) (t x : ℕ) where
     fits (Pending.Abort who) rest h = (alive h.1, h.0.1)
     fits (Pending.Suspend who) rest h = (alive h.1, h.0.1)
     fits (Pending.Continue who) rest h = (alive h.1, h.0.1)
+    fits (Pending.Join who timeout) rest h = (alive h.1, h.0.1)
     fits (Pending.DomInit d parts) rest h = (alive h.1, h.0.1)
     fits (Pending.DomAdd d range attr) rest h = (alive h.1, h.0.1)
     fits (Pending.DomRemove d range attr) rest h = (alive h.1, h.0.1)
