@@ -3,6 +3,7 @@ pub mod Left
 pub mod Brief
 pub mod Whole
 pub mod Compared
+pub mod Listed
 pub mod InTime
 pub mod Related
 pub mod AbortBetweenTwoReadings

@@ -1,8 +1,6 @@
 -- The relation's parts on time, aborts, sleepers, joins and futexes, tested after each step of a worked run.
-use Rattle.std.specs.Prelude.{ℕ, ◌+◌, Bool, true, false, ◌==◌, ◌&&◌, ◌||◌, not, nat_le, nat_lt, List, [], ◌∷◌, ◌++◌, length, Option, Some, None, is_some, slice_index_or, if◌then◌else◌}
+use Rattle.std.specs.Prelude.{ℕ, ◌+◌, Bool, true, false, ◌==◌, ◌&&◌, ◌||◌, not, nat_le, nat_lt, List, [], ◌∷◌, ◌++◌, length, Option, Some, None, is_some}
 use Rattle.std.specs.List.{list_all, list_any}
-use Rattle.um_base.specs.declared.ask.Waiter.{Waiter}
-use Rattle.um_base.specs.declared.image.Image.{Image}
 use Rattle.um_base.specs.declared.limits.TheConstants.{FUTEX_CELL, JOIN_CELL, THREADS}
 use Rattle.um_base.specs.Places.{own_row}
 use Rattle.um_machine.specs.declared.contents.Contents.{Contents}
@@ -16,12 +14,12 @@ use Rattle.um_fine.specs.Context.{Context}
 use Rattle.um_fine.specs.Joins.{asleep_at, is_joined, is_shut}
 use Rattle.um_fine.specs.Places.{Todo, Todos, is_paid}
 use Rattle.um_fine.specs.Processor.{Processor, actor_or}
-use Rattle.um_fine.specs.Scheduler.{is_cut, parked_at, told_at, waits}
+use Rattle.um_fine.specs.Scheduler.{parked_at}
 use Rattle.um_fine.specs.Seeking.{deadline_of}
 use Rattle.um_refinement.specs.Fine.{Fine, bytes, clock, joins, one_if, over_processors, scheduler, word}
-use Rattle.um_refinement.specs.Lists.{counted, runs, runs_thread, times}
-use Rattle.um_refinement.specs.Offers.{is_over}
-use Rattle.um_refinement.specs.Threads.{cutters, is_ready_there, occurs, places, runs_on, tellers, told_by}
+use Rattle.um_refinement.specs.Lists.{counted, runs_thread, times}
+use Rattle.um_refinement.specs.Objects.{recyclers, wipers}
+use Rattle.um_refinement.specs.Threads.{cutters, runs_on, told_by}
 use Rattle.um_refinement.specs.Stops.{cell_site, clears_own, is_look, is_reread, is_reread_asleep, is_rouse, is_waiting_site, looks_well, noted_at, starts, waits_at}
 use Rattle.um_refinement.specs.Timing.{armed_next, arms, handles, is_left, is_placed, is_sound, left_marks, open_marks, settles, shows_act}
 use Rattle.um_worked_runs.specs.Evaluate.{numbers}
@@ -43,12 +41,20 @@ is_to_kill _ = false
 abbrev pub cells : Tested → List ℕ
 cells n = n.rows ++ JOIN_CELL ∷ FUTEX_CELL ∷ []
 
--- the list of a processor with a mark in its hand
+-- the list of a processor with a mark in its hand: it handles the mark, wakes, and pays
+abbrev pub is_paying : Todos → Bool
+is_paying (Todo.wake who told ∷ todo) = is_paying todo
+is_paying (Todo.paid ∷ []) = true
+is_paying _ = false
+
 abbrev pub is_hand : Todos → Bool
 is_hand (Todo.handle deadline mark ∷ Todo.paid ∷ []) = true
-is_hand (Todo.wake who told ∷ todo) = is_hand todo
-is_hand (Todo.paid ∷ []) = true
-is_hand _ = false
+is_hand todo = is_paying todo
+
+-- the number of a note isn't below this one
+abbrev pub not_older : ℕ → Option ℕ → Bool
+not_older before None = true
+not_older before (Some number) = nat_le before number
 
 module _ (n : Tested) (f : Fine) (m : State) where
   abbrev pub cpus : List ℕ
@@ -67,12 +73,35 @@ module _ (n : Tested) (f : Fine) (m : State) where
   fits_if t None = true
   fits_if t (Some c) = fits_note t c && c.thread == t
 
+  -- the own part of a thread that has a step left, wherever it lies, passes a test
+  abbrev pub if_there : (Context → Bool) → Option Context → Bool
+  if_there test None = true
+  if_there test (Some c) = test c
+
+  abbrev pub lies_well : (Context → Bool) → ℕ → Bool
+  lies_well test t =
+      if_there test (parked_at (scheduler f) t) && if_there test (asleep_at (joins f) t)
+      && list_all (λ k. implies (runs_on t (f.processors k)) (test (f.processors k).context)) cpus
+
+  -- the cell in which a thread waits keeps the number of its note
+  abbrev pub is_kept : ℕ → ℕ → Bool
+  is_kept t x = implies (waits_at m t x) (lies_well (λ c. same_option c.noted (Some (noted_at f x t))) t)
+
+  -- a look is for a step of the word that was made; where the thread's note is older, the thread is aborted
+  abbrev pub look_fits : ℕ → Todo → Bool
+  look_fits t (Todo.look who site before) =
+      implies (who == t) (nat_le before (word f t).number && ((word f t).aborted || lies_well (λ c. not_older before c.noted) t))
+  look_fits t q = true
+
+  abbrev pub looks_fit : ℕ → Bool
+  looks_fit t = list_all (λ k. list_all (look_fits t) (f.processors k).todo) cpus
+
   abbrev pub note_is : ℕ → Bool
   note_is t =
       let v = word f t in
       fits_if t (parked_at (scheduler f) t) && fits_if t (asleep_at (joins f) t)
       && list_all (λ k. implies (runs_on t (f.processors k)) (fits_note t (f.processors k).context)) cpus
-      && list_all (λ c. implies (waits_at m t c) (same_option v.note (Some (cell_site c)))) (cells n)
+      && list_all (λ c. implies (waits_at m t c) (same_option v.note (Some (cell_site c)))) (cells n) && list_all (is_kept t) (cells n)
       && implies (has_none (thread_at m t).pending) (not (is_some v.note))
       && elim v.note as (λ _. Bool) [ None ↦ true | Some site ↦ is_waiting_site site ]
 
@@ -120,27 +149,35 @@ module _ (n : Tested) (f : Fine) (m : State) where
       let v = word f t in
       let me = thread_at m t in
       same_bool v.aborted me.aborted && same_bool v.suspended me.suspended
-      && note_is t && cut_is t && sleep_is t && shut_is t
+      && note_is t && looks_fit t && cut_is t && sleep_is t && shut_is t
       && list_all (cut_comes t) (cells n) && list_all (timeout_comes t) (cells n)
 
-  abbrev pub cell_is : ℕ → Bool
-  cell_is c = runs_out c (object_at m c).contents
+  -- a timer that runs has its mark, unless its cell was cleared
+  abbrev pub expires : ℕ → Bool
+  expires x = implies (wipers f x == recyclers f x) (runs_out x (object_at m x).contents)
+
+  abbrev pub are_unsettled : ℕ → Mark → Bool
+  are_unsettled deadline mark = open_marks deadline mark (clock f).marks == over_processors f (λ p. counted (settles deadline mark) p.todo)
 
   abbrev pub mark_is : Marked → Bool
-  mark_is x =
-      is_sound (clock f).now x && is_placed x.mark
-      && open_marks x.deadline x.mark (clock f).marks == over_processors f (λ p. counted (settles x.deadline x.mark) p.todo)
+  mark_is x = is_sound (clock f).now x && is_placed x.mark && are_unsettled x.deadline x.mark
+
+  -- a mark on a list: one that is to be settled is in the clock as often, and the deadline of one in a hand has come
+  abbrev pub on_list : Todo → Bool
+  on_list (Todo.settle deadline mark) = are_unsettled deadline mark
+  on_list (Todo.handle deadline mark) = nat_le deadline (clock f).now && is_placed mark
+  on_list q = true
 
   abbrev pub times_rightly : ℕ → Bool
   times_rightly k =
       let p = f.processors k in
-      is_started (thread_at m (actor_or f.image p.actor)).life && implies (times p.todo) (is_hand p.todo)
-      && list_all looks_well p.todo
+      implies (nat_lt 0 (length f.image.boots)) (is_started (thread_at m (actor_or f.image p.actor)).life)
+      && implies (times p.todo) (is_hand p.todo) && list_all on_list p.todo && list_all looks_well p.todo
       && (list_any shows_act p.todo || not (is_some (armed_next f.image p.context p.context.pending)))
 
   abbrev pub is_in_time : Bool
   is_in_time =
-      list_all in_time n.threads && list_all cell_is (cells n) && list_all times_rightly cpus
+      list_all in_time n.threads && list_all expires n.rows && list_all times_rightly cpus
       && list_all mark_is (clock f).marks
       && (clock f).now == m.now && same_numbers (deadlines (clock f).marks) m.armed
       && (scheduler f).owed == over_processors f (λ p. one_if (arms p.todo) + counted is_paid p.todo) + left_marks (clock f).marks

@@ -5,34 +5,28 @@ use Rattle.std.specs.List.{list_all, list_any}
 use Rattle.um_base.specs.declared.image.Image.{Image}
 use Rattle.um_base.specs.declared.limits.TheConstants.{ROWS, STATIC_ROWS, THREADS}
 use Rattle.um_base.specs.declared.names.Addr.{Addr}
-use Rattle.um_base.specs.Places.{own_row, thread_of_row}
-use Rattle.um_base.specs.Regions.{Partitions}
-use Rattle.um_machine.specs.declared.contents.Contents.{Contents}
-use Rattle.um_machine.specs.declared.object.Cost.{Cost}
-use Rattle.um_machine.specs.declared.object.Status.{Status}
-use Rattle.um_machine.specs.declared.thread.Life.{Life}
+use Rattle.um_base.specs.Places.{thread_of_row}
 use Rattle.um_machine.specs.Domains.{domain_after}
 use Rattle.um_machine.specs.Memory.{partitions_of}
+use Rattle.um_machine.specs.Order.{Steps}
 use Rattle.um_machine.specs.Objects.{is_free, is_gone}
 use Rattle.um_machine.specs.Run.{opening}
 use Rattle.um_machine.specs.declared.pending.Pending.{Pending}
 use Rattle.um_machine.specs.State.{State, is_started, is_user, object_at, pair_at, thread_at}
 use Rattle.um_machine.specs.Table.{after, domain_at, message_size}
 use Rattle.um_words.specs.declared.fine.FineAct.{FineAct}
-use Rattle.um_words.specs.declared.row_word.Stage.{Stage}
 use Rattle.um_words.specs.Rows.{is_dying}
 use Rattle.um_fine.specs.declared.table.Table.{Table}
 use Rattle.um_fine.specs.Addresses.{row_named}
 use Rattle.um_fine.specs.Context.{Context}
 use Rattle.um_fine.specs.Steps.{FineStep}
 use Rattle.um_fine.specs.Heap.{cost_at}
-use Rattle.um_fine.specs.Objects.{ObjectCell}
 use Rattle.um_fine.specs.Scheduler.{is_cut, parked_at, told_at, waits}
 use Rattle.um_fine.specs.Joins.{asleep_at}
 use Rattle.um_fine.specs.Places.{Todo, Todos}
 use Rattle.um_fine.specs.Processor.{Processor, edit_of, fails, key_of, same_key}
 use Rattle.um_refinement.specs.Fine.{Fine, domain, heap, joins, object, one_if, over_processors, parts, row, scheduler, word}
-use Rattle.um_refinement.specs.Lists.{cleaned_pairs, counted, edited, edits, edits_step, has_claimed, has_held, has_loaded, has_steps, is_arm, is_cleared, is_done, is_move_done, is_recycle, is_sleep, is_wipe, looked, moving, names_row, runs, runs_thread, visited}
+use Rattle.um_refinement.specs.Lists.{cleaned_pairs, counted, edited, edits, has_claimed, has_held, has_loaded, is_cleared, is_done, is_move_done, is_recycle, is_sleep, is_wipe, looked, moving, names_row, runs, runs_thread, visited}
 use Rattle.um_refinement.specs.Offers.{is_over}
 use Rattle.um_refinement.specs.Threads.{as_cut, cutters, flags_of, is_ended, is_ending, is_ready_there, occurs, places, tellers, told_by}
 use Rattle.um_refinement.specs.Claims.{claims}
@@ -43,6 +37,7 @@ use Rattle.um_worked_runs.specs.Evaluate.{Choice, Offer, numbers, offered}
 use Rattle.um_worked_runs.specs.Fine.Compared.{Tested, fine_of, implies, is_empty, life_number, parts_length, same_bool, same_bools, same_cost, same_numbers, stage_number, status_number}
 use Rattle.um_worked_runs.specs.Fine.Evaluate.{Board, next_made, opening_board, stepped}
 use Rattle.um_worked_runs.specs.Fine.InTime.{is_in_time}
+use Rattle.um_worked_runs.specs.Fine.Listed.{are_blocks, fits, is_framed, is_put_back}
 
 module _ (n : Tested) (f : Fine) (m : State) where
   abbrev pub cpus : List ℕ
@@ -69,7 +64,7 @@ module _ (n : Tested) (f : Fine) (m : State) where
 
   abbrev pub parked_is : ℕ → Option Context → Bool
   parked_is t None = true
-  parked_is t (Some c) = is_of c && c.thread == t && not c.ended
+  parked_is t (Some c) = is_of c && c.thread == t && not c.ended && is_put_back f.image c
 
   -- one that sleeps is at rest, and holds nothing
   abbrev pub asleep_is : ℕ → Option Context → Bool
@@ -84,7 +79,7 @@ module _ (n : Tested) (f : Fine) (m : State) where
       let parked = parked_at (scheduler f) t in
       life_number v.life == life_number me.life && same_bool v.doomed me.doomed && same_bool (is_user v.mode) (is_user me.mode)
       && v.domain == me.domain && nat_le there 1
-      && implies (there == 0) (not (life_number me.life == 1) || (me.doomed && length me.pending == 0))
+      && implies (there == 0) ((not (life_number me.life == 1) || me.doomed) && length me.pending == 0)
       && same_bool (is_some me.told) (is_some (told_by f t n.cpus)) && nat_le (tellers f t) 1
       && one_if v.held == over_processors f (λ p. one_if (runs_thread t p && has_held p))
       && parked_is t parked && asleep_is t (asleep_at (joins f) t)
@@ -175,123 +170,24 @@ module _ (n : Tested) (f : Fine) (m : State) where
   reply_is p None = true
   reply_is p (Some d) = same_bool (fails p.reply) (not (is_some (domain_at m d)))
 
-  -- the own parts of new threads that were started and are still to be added
+  -- the own parts of threads that were started or roused and are still to be added: they have no note
   abbrev pub added_are : Todos → Bool
   added_are [] = true
-  added_are (Todo.add c ∷ todo) = is_of c && not c.ended && length c.pending == 0 && added_are todo
+  added_are (Todo.add c ∷ todo) = is_of c && not c.ended && length c.pending == 0 && not (is_some c.noted) && added_are todo
   added_are (Todo.show q rest ∷ todo) = true
   added_are (q ∷ todo) = added_are todo
 
-  -- what stands behind a step that belongs to an event
-  abbrev pub is_wait_over : Todos → Bool
-  is_wait_over [] = true
-  is_wait_over (Todo.settle deadline mark ∷ []) = true
-  is_wait_over (Todo.reread site ∷ []) = true
-  is_wait_over (Todo.settle deadline mark ∷ Todo.reread site ∷ []) = true
-  is_wait_over todo = false
-
-  abbrev pub is_access : Todos → Bool
-  is_access (Todo.show q rest ∷ Todo.read_done None ∷ Todo.let_go ∷ todo) = is_wait_over todo
-  is_access todo = false
-
-  abbrev pub is_start : Todos → Bool
-  is_start (Todo.show q rest ∷ Todo.let_go ∷ Todo.add c ∷ []) = true
-  is_start todo = false
-
-  abbrev pub is_held : Todos → Bool
-  is_held (Todo.read_claim None ∷ Todo.region_load ∷ todo) = is_access todo
-  is_held (Todo.unshut who ∷ todo) = is_start todo
-  is_held todo = false
-
-  abbrev pub is_let_go : Todos → Bool
-  is_let_go (Todo.add c ∷ []) = true
-  is_let_go todo = is_wait_over todo
-
-  abbrev pub is_move : ℕ → Todos → Bool
-  is_move d (Todo.show (Pending.DomMove e who) rest ∷ []) = d == e
-  is_move d todo = false
-
-  abbrev pub is_claimed : Todos → Bool
-  is_claimed (Todo.region_load ∷ todo) = is_access todo
-  is_claimed todo = false
-
-  abbrev pub is_read_over : Todos → Bool
-  is_read_over (Todo.let_go ∷ todo) = is_wait_over todo
-  is_read_over todo = false
-
-  abbrev pub is_edit : ℕ → Todos → Bool
-  is_edit d (Todo.edit e q ∷ Todo.show r rest ∷ []) = d == e && edits_step d q && edits_step d r
-  is_edit d todo = false
-
-  abbrev pub is_edited : ℕ → Pending → Todos → Bool
-  is_edited d q (Todo.show r rest ∷ []) = edits_step d q && edits_step d r
-  is_edited d q todo = false
-
-  abbrev pub is_owed : Todos → Bool
-  is_owed (Todo.show q rest ∷ []) = is_arm q
-  is_owed todo = false
-
-  abbrev pub is_settled : Todos → Bool
-  is_settled [] = true
-  is_settled (Todo.reread site ∷ []) = true
-  is_settled todo = false
-
-  abbrev pub is_asleep : Todos → Bool
-  is_asleep (Todo.reread_asleep ∷ Todo.done ∷ []) = true
-  is_asleep todo = false
-
-  abbrev pub is_done_next : Todos → Bool
-  is_done_next (Todo.done ∷ []) = true
-  is_done_next todo = false
-
-  abbrev pub is_paid_next : Todos → Bool
-  is_paid_next (Todo.paid ∷ []) = true
-  is_paid_next todo = false
-
-  abbrev pub is_cleared_next : Todos → Bool
-  is_cleared_next (Todo.show (Pending.ClearInit a) rest ∷ []) = true
-  is_cleared_next todo = false
-
-  abbrev pub is_behind : Todo → Todos → Bool
-  is_behind Todo.hold todo = is_held todo
-  is_behind Todo.let_go todo = is_let_go todo
-  is_behind (Todo.read_claim None) todo = is_claimed todo
-  is_behind (Todo.read_claim (Some d)) todo = is_move d todo
-  is_behind (Todo.read_done None) todo = is_read_over todo
-  is_behind (Todo.read_done (Some d)) todo = is_move d todo
-  is_behind Todo.region_load todo = is_access todo
-  is_behind (Todo.write_claim d) todo = is_edit d todo
-  is_behind (Todo.edit d q) todo = is_edited d q todo
-  is_behind (Todo.size_look x) todo = elim (looked todo) as (λ _. Bool) [ None ↦ false | Some a ↦ x == row_named f.image a ]
-  is_behind (Todo.add c) todo = length c.claims == 0
-  is_behind Todo.park todo = not (has_steps todo)
-  is_behind Todo.done todo = not (has_steps todo)
-  is_behind (Todo.unshut who) todo = is_start todo
-  is_behind Todo.owe todo = is_owed todo
-  is_behind (Todo.settle deadline mark) todo = is_settled todo
-  is_behind (Todo.reread site) todo = not (has_steps todo)
-  is_behind Todo.sleep todo = is_asleep todo
-  is_behind Todo.reread_asleep todo = is_done_next todo
-  is_behind (Todo.handle deadline mark) todo = is_paid_next todo
-  is_behind Todo.paid todo = not (has_steps todo)
-  is_behind Todo.leave todo = is_cleared_next todo
-  is_behind q todo = true
-
-  -- the permission on a thread's own object isn't passed on
-  abbrev pub is_others : ℕ → Todo → Bool
-  is_others own (Todo.pass who x) = not (x == own)
-  is_others own q = true
-
-  abbrev pub is_framed : Todos → Bool
-  is_framed [] = true
-  is_framed (q ∷ todo) = is_behind q todo && is_framed todo
+  -- the drops of an end begin at the row that is visited next, or at a lower one
+  abbrev pub drops_from : ℕ → Steps → Bool
+  drops_from x (Pending.Drops from ∷ rest) = nat_le from x
+  drops_from x steps = true
 
   abbrev pub processor_is : ℕ → Bool
   processor_is k =
       let p = f.processors k in
       let me = thread_at m p.context.thread in
-      implies (runs p) (run_is p.context) && implies (list_any is_done p.todo && not (list_any is_sleep p.todo)) (done_is p.context) && added_are p.todo && is_framed p.todo && list_all names_row p.todo
-      && list_all (is_others (own_row f.image p.context.thread)) p.todo && size_is p (looked p.todo) && reply_is p (moving p.todo)
+      implies (runs p) (run_is p.context) && implies (list_any is_done p.todo && not (list_any is_sleep p.todo)) (done_is p.context) && added_are p.todo && list_all names_row p.todo
+      && is_framed f.image p.todo && are_blocks f.image p.todo && fits f.image p.context p.todo && size_is p (looked p.todo) && reply_is p (moving p.todo)
       && implies (has_held p) (p.domain == (word f p.context.thread).domain)
       && implies (list_any is_move_done p.todo) (not (fails p.reply))
       && implies (not (runs p)) (length p.context.claims == 0)
@@ -301,6 +197,7 @@ module _ (n : Tested) (f : Fine) (m : State) where
       && table_stands p.table
       && implies (has_loaded p) (table_loaded p p.table)
       && implies (runs p && is_visiting p.context.pending) (list_all (λ x. implies (slice_index_or me.due x false) (nat_le (visited p.todo) x)) n.rows)
+      && implies (runs p) (drops_from (visited p.todo) p.context.pending) && nat_le (length me.due) ROWS
 
   abbrev pub is_related : Bool
   is_related =
