@@ -50,6 +50,16 @@ is_own phase = not (is_errand phase)
 abbrev pub own_phase : Phase → Phase
 own_phase phase = if is_own phase then phase else Phase.Park
 
+-- whether nothing stands in a phase before the thread's next step
+abbrev pub is_over : Phase → Bool
+is_over Phase.Open = true
+is_over Phase.Idle = true
+is_over phase = false
+
+-- a phase that comes behind an errand, or that in which the thread is put back
+abbrev pub behind_phase : Phase → Phase
+behind_phase phase = if is_errand phase then Phase.Park else phase
+
 -- the thread to which permissions are passed on
 abbrev pub passed_to : Steps → ℕ
 passed_to (Pending.Inherit who ∷ rest) = who.0
@@ -152,6 +162,13 @@ first_phase image c (Pending.Join who timeout) later = noting_phase c (noted_cel
 first_phase image c (Pending.Work a ask) later = act_phase image c (Pending.Work a ask) (is_untimed c ask)
 first_phase image c (Pending.ClearInit a) later = clearing_phase (is_own_object image c.thread a)
 first_phase image c p later = Phase.Show
+
+-- whether a step only waits, or has rows visited before the step behind it
+abbrev pub has_visits : Pending → Bool
+has_visits Pending.Resume = true
+has_visits (Pending.Inherit who) = true
+has_visits (Pending.Drops from) = true
+has_visits p = false
 
 -- whether no visits come before a step, and its fine steps name no queue, no new thread, no cell and no mark
 abbrev pub is_direct : Context → Pending → Bool

@@ -2,7 +2,7 @@
 
 ghost use Rattle.std.specs.Prelude.{◌≡◌, ◌∷◌};
 ghost use Rattle.um_fine.specs.{Follows.{filled_up, looks_for}, Places.{Todo}};
-ghost use Rattle.um_processor.specs.{Events.{with_errand}, Processors.{behind_errand, in_phase, processor_of, todo_of, with_todo}, Turns.{CanTurn, HasRun}};
+ghost use Rattle.um_processor.specs.{Events.{with_errand}, Phases.{behind_phase, is_over}, Processors.{behind_errand, in_phase, processor_of, todo_of, with_todo}, Turns.{CanTurn, HasRun}};
 ghost use Rattle.um_processor.specs.declared.phase.Phase.TheVariants as Phase;
 
 use crate::phase::{Phase, Turn};
@@ -11,6 +11,26 @@ use crate::turns::made;
 use um_base::{Image, THREADS, ThreadIx};
 use um_tables::{Here, Look, Sites, Waiting};
 use um_words::ThreadWord;
+
+/// Whether nothing stands in a phase before the thread's next step.
+fn is_over(phase: Phase) -> bool
+    ensures { result ≡ is_over phase }
+{
+    match phase {
+        Phase::Open | Phase::Idle => true,
+        _ => false,
+    }
+}
+
+/// A phase that comes behind an errand, or that in which the thread is put back.
+fn behind_phase(phase: Phase) -> Phase
+    ensures { result ≡ behind_phase phase }
+{
+    match phase {
+        Phase::Look | Phase::TellCut | Phase::Rouse | Phase::AddRoused => Phase::Park,
+        _ => phase,
+    }
+}
 
 impl Running {
     /// Looks for a thread next, in the cell that its word notes, or among those who sleep. What was next comes behind that.
@@ -43,13 +63,15 @@ impl Running {
     }
 
     /// Goes on behind an errand.
+    #[tactic(auto, using(crate::proofs::Expanded::behind_goes, crate::proofs::Expanded::over_goes))]
     fn ends_errand(&mut self, image: &Image)
         ensures { processor_of self.new ≡ with_todo self.old
             (filled_up image.now self.old.context.value (behind_errand self.old.after self.old)) }
     {
-        match self.after {
-            Phase::Open => self.expands(image),
-            _ => self.phase = self.after,
+        if is_over(self.after) {
+            self.expands(image);
+        } else {
+            self.phase = behind_phase(self.after);
         }
     }
 

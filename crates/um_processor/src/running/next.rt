@@ -1,17 +1,18 @@
 //! The first fine step of a thread's next step.
 
-ghost use Rattle.std.specs.Prelude.{◌≡◌, ◌<◌, ◌∷◌, [], false, if◌then◌else◌, ◌==◌, is_some, IfSome, MatchOption};
+ghost use Rattle.std.specs.Prelude.{◌≡◌, ◌<◌, ◌∷◌, [], false, if◌then◌else◌, ◌==◌, is_some, IfSome, MatchOption, drop};
 ghost use Rattle.um_base.specs.declared.limits.TheConstants.{ROWS};
 ghost use Rattle.um_fine.specs.{Addresses.{row_named}, Continues.{newborn}, Places.{armed_for, but}};
 ghost use Rattle.um_machine.specs.Limits.{IsSound};
+ghost use Rattle.um_machine.specs.declared.pending.Pending.TheVariants as Pending;
 ghost use Rattle.um_processor.specs.declared.phase.Phase.TheVariants as Phase;
-ghost use Rattle.um_processor.specs.{Events.{rest_of}, Phases.{act_phase, cell_of, clearing_phase, domain_named, first_of, first_phase, is_direct, is_own, is_own_object, own_phase, phase_of_amount, queue_of, row_of_amount, settled_mark, settles_at}, Processors.{processor_of, ready_for, ready_of, refilled}};
+ghost use Rattle.um_processor.specs.{Events.{rest_of}, Phases.{act_phase, cell_of, clearing_phase, domain_named, first_of, first_phase, has_visits, is_direct, is_own, is_own_object, own_phase, phase_of_amount, queue_of, row_of_amount, settled_mark, settles_at}, Processors.{processor_of, ready_for, ready_of, refilled}};
 ghost use Rattle.um_tables.specs.Contexts.{born, steps_behind};
 
 use crate::phase::Phase;
 use crate::running::Running;
 use crate::running::timed::{act_of, armed_for, is_untimed, mark_for, noted_cell, noting_phase};
-use um_base::{Addr, Image, ROWS};
+use um_base::{Addr, Image, ROWS, ThreadIx};
 use um_machine::places::first_place;
 use um_machine::{Amount, Pending};
 use um_steps::rows::{own_row, row_at};
@@ -314,6 +315,73 @@ impl Running {
         };
     }
 
+    /// The second step of those that are left.
+    fn second_step(&self) -> Pending
+        ensures { result ≡ first_of (drop 1 self.now.context.value.pending) }
+    {
+        match self.context.second() {
+            Some(step) => step,
+            None => Pending::Resume,
+        }
+    }
+
+    /// The third one.
+    fn third_step(&mut self) -> Pending
+        ensures step { result ≡ first_of (drop 2 self.old.context.value.pending) }
+        ensures same { self.new ≡ self.old }
+    {
+        match self.context.third() {
+            Some(step) => step,
+            None => Pending::Resume,
+        }
+    }
+
+    /// Goes to the first fine step of this step, before which no row is visited.
+    #[tactic(auto, using(crate::proofs::Expanded::plain_goes))]
+    fn expands_to(&mut self, image: &Image, first: &Pending)
+        requires at { self.old.context.value.pending ≡ first.now ∷ drop 1 self.old.context.value.pending }
+        requires plain { has_visits first.now ≡ false }
+        ensures { processor_of self.new ≡ refilled image.now self.old }
+    {
+        let behind = self.second_step();
+        self.readies(image, first, &behind, false);
+    }
+
+    /// Goes to the first row at which a permission is passed to this thread, and readies the step behind the visits.
+    #[tactic(auto, using(crate::proofs::Expanded::alone_passes, crate::proofs::Expanded::passes_goes))]
+    fn expands_passes(&mut self, image: &Image, who: ThreadIx)
+        requires at { self.old.context.value.pending
+            ≡ Pending.Inherit who ∷ drop 1 self.old.context.value.pending }
+        ensures { processor_of self.new ≡ refilled image.now self.old }
+    {
+        let own = own_row(image, self.context.thread() as usize);
+        match self.context.second() {
+            None => self.readies(image, &Pending::Inherit { who }, &Pending::Resume, false),
+            Some(second) => {
+                let third = self.third_step();
+                self.readies(image, &second, &third, true);
+                self.visits(but(own, 0), Phase::Pass);
+            }
+        }
+    }
+
+    /// Goes to the first row at which a permission is dropped, and readies the step behind the visits.
+    #[tactic(auto, using(crate::proofs::Expanded::alone_drops, crate::proofs::Expanded::drops_goes))]
+    fn expands_drops(&mut self, image: &Image, from: u8)
+        requires at { self.old.context.value.pending
+            ≡ Pending.Drops from ∷ drop 1 self.old.context.value.pending }
+        ensures { processor_of self.new ≡ refilled image.now self.old }
+    {
+        match self.context.second() {
+            None => self.readies(image, &Pending::Drops { from }, &Pending::Resume, false),
+            Some(second) => {
+                let third = self.third_step();
+                self.readies(image, &second, &third, true);
+                self.visits(from, Phase::Drop);
+            }
+        }
+    }
+
     /// The same for any step.
     #[inline(never)]
     fn expands_far(&mut self, image: &Image)
@@ -323,26 +391,11 @@ impl Running {
             None => return self.ends_turn(),
             Some(first) => first,
         };
-        let second = self.context.second();
-        let third = self.context.third().unwrap_or(Pending::Resume);
         match first {
             Pending::Resume => self.phase = Phase::Park,
-            Pending::Inherit { .. } => match second {
-                None => self.readies(image, &first, &Pending::Resume, false),
-                Some(second) => {
-                    self.readies(image, &second, &third, true);
-                    let own = own_row(image, self.context.thread() as usize);
-                    self.visits(but(own, 0), Phase::Pass);
-                }
-            },
-            Pending::Drops { from } => match second {
-                None => self.readies(image, &first, &Pending::Resume, false),
-                Some(second) => {
-                    self.readies(image, &second, &third, true);
-                    self.visits(from, Phase::Drop);
-                }
-            },
-            _ => self.readies(image, &first, &second.unwrap_or(Pending::Resume), false),
+            Pending::Inherit { who } => self.expands_passes(image, who),
+            Pending::Drops { from } => self.expands_drops(image, from),
+            _ => self.expands_to(image, &first),
         }
     }
 }
