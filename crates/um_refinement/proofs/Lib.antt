@@ -194,9 +194,11 @@ pub mod Lying
 pub mod LooksPart
 pub mod NoteNumbers
 pub mod NoteSteps
+pub mod NotesHeld
 pub mod NotesKept
 pub mod NotesThere
 pub mod WaitNotes
+pub mod WaitsKept
 pub mod WaitsNoted
 pub mod SearchSteps
 pub mod SleepFlags

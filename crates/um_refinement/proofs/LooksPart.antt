@@ -149,4 +149,4 @@ module _ (f : Fine) (m : State) (e : FineStep) (law : Lawful f m e) (s : State) 
             where
               where-from : Before f m e law s how t few n → (word later t).aborted ≡ true
               where-from (inl (d, lay, same)) = aborted-stays d lay (was.aborted j site before n d r there lay same less)
-              where-from (inr number) = let old = was.made j site before r there in let grows = number-grows in absurd (omega (arith, old, grows, number, less))
+              where-from (inr new) = let number = new.0 in let old = was.made j site before r there in let grows = number-grows in absurd (omega (arith, old, grows, number, less))

@@ -71,7 +71,7 @@ module _ (f : Fine) (m : State) (e : FineStep) (law : Lawful f m e) (s : State) 
 
   -- where it lay before with this note, or that it is noted right now
   abbrev pub Before : ℕ → Type 0
-  Before n = ((d : Context) × LiesAt f t d × (d.noted ≡ Some n)) ⊎ ((word later t).number ≡ n)
+  Before n = ((d : Context) × LiesAt f t d × (d.noted ≡ Some n)) ⊎ (((word later t).number ≡ n) × (site : ℕ) × (todo : Todos) × (p.todo ≡ Todo.note site ∷ todo) × (p.context.thread ≡ t))
 
   -- the maker's thread lay with it
   mine-lay : (n : ℕ) → runs p ≡ true → p.context.thread ≡ t → is_over p.context ≡ false → p.context.noted ≡ Some n → Before n
@@ -141,7 +141,7 @@ module _ (f : Fine) (m : State) (e : FineStep) (law : Lawful f m e) (s : State) 
     lay (Todo.note site ∷ todo) at =
         let thread = next-thread f.image p e (Todo.note site) todo at refl in
         let word-is = word-now f m e law t few (made-at f m e law (Todo.note site ∷ todo) at ∙ ap Site.thread (sym thread ∙ same)) in
-        inr (sym (ap (λ w. w.number) word-is) ∙ some-of (here (Todo.note site) todo at))
+        inr (sym (ap (λ w. w.number) word-is) ∙ some-of (here (Todo.note site) todo at), site, todo, at, sym thread ∙ same)
     lay (Todo.sleep ∷ todo) at = absurd (true≢false (sym (ap is_over (now-context f m e law (Todo.sleep ∷ todo) at)) ∙ on))
     lay (Todo.read_claim (Some d) ∷ todo) at = goes (Todo.read_claim (Some d)) todo at refl (sym (claim-noted d (domain_in e.word).init todo) ∙ here (Todo.read_claim (Some d)) todo at)
     lay (Todo.read_claim None ∷ todo) at = goes (Todo.read_claim None) todo at refl (here (Todo.read_claim None) todo at)

@@ -17,4 +17,4 @@ module _ (f : Fine) (m : State) (e : FineStep) (law : Lawful f m e) (s : State) 
           let old = (law.rel.threads t few).note.number d n lay same in
           let grows = number-grows f m e law s how t few in
           omega (arith, old, grows)
-      by (inr number) = omega (arith, number)
+      by (inr new) = let number = new.0 in omega (arith, number)

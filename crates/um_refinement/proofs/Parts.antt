@@ -31,12 +31,14 @@ use Rattle.um_refinement.proofs.TimeoutPart.{timeout-part}
 use Rattle.um_refinement.proofs.TimerPart.{timer-part}
 use Rattle.um_refinement.proofs.UnarmedPart.{unarmed-part}
 use Rattle.um_refinement.proofs.WaitersFound.{WaitersWait}
+use Rattle.um_refinement.proofs.WaitsKept.{Begun, waits-noted}
 use Rattle.um_refinement.proofs.WaitersKnown.{UntilsAre, WaitersHold, holds-known, untils-known}
 use Rattle.um_fine.specs.Joins.{is_shut}
 use Rattle.um_refinement.specs.Fine.{joins}
-use Rattle.um_refinement.specs.Stops.{LiesAt, cell_site, noted_at, waits_at}
+use Rattle.um_refinement.specs.Stops.{LiesAt, cell_site, noted_at}
 use Rattle.um_refinement.proofs.NoteCells.{note-cell}
 use Rattle.um_refinement.proofs.NoteNumbers.{note-number}
+use Rattle.um_refinement.proofs.NotesHeld.{notes-held}
 use Rattle.um_refinement.proofs.NotesThere.{note-there}
 use Rattle.um_refinement.proofs.ShutAlone.{shut-alone}
 use Rattle.um_refinement.proofs.ShutBegins.{begins-part}
@@ -123,10 +125,11 @@ module _ (f : Fine) (m : State) (e : FineStep) (law : Lawful f m e) where
     pub untils : UntilsAre s
     pub aborted : AreAborted s
 
-  -- of each thread, what is still to be shown of its note, and of who is shut
+  -- of each thread, what is still to be shown: that it has noted the cell in which it begins to wait, and that the cell keeps the number; that it has
+  -- no note at rest; and of who is shut
   pub record ToShow (s : State) (t : ℕ) : Type 0 where
-    pub waits : (c : ℕ) → c < ROWS + 2 → waits_at s t c ≡ true → (word later t).note ≡ Some (cell_site c)
-    pub kept : (x : ℕ) (c : Context) → x < ROWS + 2 → waits_at s t x ≡ true → LiesAt later t c → c.noted ≡ Some (noted_at later x t)
+    pub noted : (c : ℕ) → c < ROWS + 2 → Begun f m e t c → (word f t).note ≡ Some (cell_site c)
+    pub kept : (x : ℕ) (c : Context) → x < ROWS + 2 → Begun f m e t x → LiesAt later t c → c.noted ≡ Some (noted_at later x t)
     pub rest : (thread_at s t).pending ≡ [] → (word later t).note ≡ None
     pub marked : is_shut (joins later) t ≡ false → (object_at s (own_row f.image t)).init ≡ true
 
@@ -148,7 +151,7 @@ module _ (f : Fine) (m : State) (e : FineStep) (law : Lawful f m e) where
               told = told;
               held = held-part f m e law t l;
               ready = ready-part f m e law suits.tells t l;
-              note = record { there = note-there f m e law s how t l; number = note-number f m e law s how t l; cell = note-cell f m e law t l; waits = (more t l).waits; kept = (more t l).kept; rest = (more t l).rest };
+              note = record { there = note-there f m e law s how t l; number = note-number f m e law s how t l; cell = note-cell f m e law t l; waits = waits-noted f m e law suits.waits t l s how (more t l).noted; kept = notes-held f m e law suits.waits t l s how (more t l).kept; rest = (more t l).rest };
               cut = cut-part f m e law s how t l known.tells known.aborted told;
               cut_comes = cut-comes-part f m e law known.holding suits.waits t l s how;
               looks = looks-part f m e law s how t l;
