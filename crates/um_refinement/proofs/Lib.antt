@@ -194,6 +194,7 @@ pub mod Lying
 pub mod LooksPart
 pub mod NoteNumbers
 pub mod NoteSteps
+pub mod NotesAtRest
 pub mod NotesHeld
 pub mod NotesKept
 pub mod NotesThere

@@ -38,6 +38,7 @@ use Rattle.um_refinement.specs.Fine.{joins}
 use Rattle.um_refinement.specs.Stops.{LiesAt, cell_site, noted_at}
 use Rattle.um_refinement.proofs.NoteCells.{note-cell}
 use Rattle.um_refinement.proofs.NoteNumbers.{note-number}
+use Rattle.um_refinement.proofs.NotesAtRest.{Rests, notes-at-rest}
 use Rattle.um_refinement.proofs.NotesHeld.{notes-held}
 use Rattle.um_refinement.proofs.NotesThere.{note-there}
 use Rattle.um_refinement.proofs.ShutAlone.{shut-alone}
@@ -126,16 +127,16 @@ module _ (f : Fine) (m : State) (e : FineStep) (law : Lawful f m e) where
     pub aborted : AreAborted s
 
   -- of each thread, what is still to be shown: that it has noted the cell in which it begins to wait, and that the cell keeps the number; that it has
-  -- no note at rest; and of who is shut
-  pub record ToShow (s : State) (t : ℕ) : Type 0 where
+  -- no note where a step leaves it at rest; and of who is shut
+  pub record ToShow (s : State) (how : Leaves f m e s) (t : ℕ) (few : t < THREADS) : Type 0 where
     pub noted : (c : ℕ) → c < ROWS + 2 → Begun f m e t c → (word f t).note ≡ Some (cell_site c)
     pub kept : (x : ℕ) (c : Context) → x < ROWS + 2 → Begun f m e t x → LiesAt later t c → c.noted ≡ Some (noted_at later x t)
-    pub rest : (thread_at s t).pending ≡ [] → (word later t).note ≡ None
+    pub rest : Rests f m e law t few s how → (word f t).note ≡ None
     pub marked : is_shut (joins later) t ≡ false → (object_at s (own_row f.image t)).init ≡ true
 
   -- the relation holds after the step
   pub related : OwnRows f.image → InDomains f m → Suits f m → IsLawful m.image → AreProper m.image m → DuesKnown m → NamesHeld m → GivesHeld m → MovesIn m (length f.image.domains) → AreQueues m
-      → (s : State) (how : Leaves f m e s) → HasStep f m e s how → Goes m e s → RestsHoldNothing s → DuesKnown s → AreKnown s → ((t : ℕ) → t < THREADS → ToShow s t) → Rel later s
+      → (s : State) (how : Leaves f m e s) → HasStep f m e s how → Goes m e s → RestsHoldNothing s → DuesKnown s → AreKnown s → ((t : ℕ) → (l : t < THREADS) → ToShow s how t l) → Rel later s
   related own all suits lawful proper before names gives moves queues s how has goes rests after known more =
       record {
         image = image-part s how;
@@ -151,7 +152,7 @@ module _ (f : Fine) (m : State) (e : FineStep) (law : Lawful f m e) where
               told = told;
               held = held-part f m e law t l;
               ready = ready-part f m e law suits.tells t l;
-              note = record { there = note-there f m e law s how t l; number = note-number f m e law s how t l; cell = note-cell f m e law t l; waits = waits-noted f m e law suits.waits t l s how (more t l).noted; kept = notes-held f m e law suits.waits t l s how (more t l).kept; rest = (more t l).rest };
+              note = record { there = note-there f m e law s how t l; number = note-number f m e law s how t l; cell = note-cell f m e law t l; waits = waits-noted f m e law suits.waits t l s how (more t l).noted; kept = notes-held f m e law suits.waits t l s how (more t l).kept; rest = notes-at-rest f m e law t l s how (more t l).rest };
               cut = cut-part f m e law s how t l known.tells known.aborted told;
               cut_comes = cut-comes-part f m e law known.holding suits.waits t l s how;
               looks = looks-part f m e law s how t l;
