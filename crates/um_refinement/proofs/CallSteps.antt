@@ -10,10 +10,7 @@ use Rattle.um_refinement.proofs.Words.{THREADS, STATIC_THREADS, STATIC_ROWS, set
 use Rattle.um_base.specs.declared.image.Script.{Script}
 use Rattle.um_base.specs.declared.names.Ref.{Ref}
 use Rattle.um_machine.specs.declared.thread.Place.{Place}
-
--- the object of a thread index is its own
-abbrev pub HasOwn : Image → ℕ → Type 0
-HasOwn image t = thread_of_row image (own_row image t) ≡ Some t
+use Rattle.um_refinement.specs.Stops.{HasOwn}
 
 -- nothing is held
 abbrev pub Bare : List Bool → Type 0

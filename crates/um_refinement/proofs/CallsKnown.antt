@@ -45,7 +45,7 @@ module _ (m : State) (sound : IsSound m) where
 
 -- Rows of threads.
 
-setup-inside : (os : List ObjectDef) (x n : ℕ) → setup_thread (slice_index_or (map (λ (o : ObjectDef). o.setup) os) x Setup.Bare) ≡ Some n
+pub setup-inside : (os : List ObjectDef) (x n : ℕ) → setup_thread (slice_index_or (map (λ (o : ObjectDef). o.setup) os) x Setup.Bare) ≡ Some n
     → (o : ObjectDef) × (slice_get os x ≡ Some o) × (setup_thread o.setup ≡ Some n) × (x < length os)
 setup-inside [] x n h = absurd (false≢true (ap is_some h))
 setup-inside (o ∷ os) zero n h = (o, refl, h, omega arith)

@@ -8,6 +8,7 @@ use Rattle.um_fine.specs.Processor.{first_boot}
 use Rattle.um_refinement.proofs.Erased.{Keeps, erased, fine}
 use Rattle.um_refinement.proofs.First.{first}
 use Rattle.um_refinement.proofs.FirstObjects.{OwnStands, Stood, opening-objects, stood-or-none}
+use Rattle.um_refinement.proofs.FirstOwned.{owned-first}
 use Rattle.um_refinement.proofs.FirstReady.{OneEach, blank-image, entry, living-first, one-more, positive, threads-are}
 use Rattle.um_refinement.proofs.FirstStops.{HasActor, OwnMarked}
 use Rattle.um_refinement.proofs.FirstThreads.{granted-image, loaded-threads, nobodies}
@@ -173,7 +174,7 @@ module _ (image : Image) (described : IsDescribed image) where
         started Life.Ended h = absurd (false≢true h)
 
     pub opens-described : Rel (first image cpus) (opening image)
-    opens-described = opens image cpus described.few one-each own-stands own-marked has-actor
+    opens-described = opens image cpus described.few one-each own-stands own-marked (λ t few own init. owned-first image described boot-is t few own init) has-actor
 
     -- so the events of every fine run are a run of the access-matrix machine, where each lawful step keeps the relation
     pub erased-described : Keeps image cpus → (h : List FineStep) → IsFineRun image cpus h

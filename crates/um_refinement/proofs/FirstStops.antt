@@ -6,7 +6,7 @@ use Rattle.um_fine.specs.Opening.{indexed}
 use Rattle.um_fine.specs.Processor.{first_boot}
 use Rattle.um_fine.specs.Seeking.{stands_in}
 use Rattle.um_refinement.specs.Fine.{joins}
-use Rattle.um_refinement.specs.Stops.{CutComes, CutIs, JoinsAre, LiesAt, LookThere, LooksFit, NoteIs, ShutIs, SleepIs, asleep, parked, runs_it, waits_at}
+use Rattle.um_refinement.specs.Stops.{HasOwn, keeps, CutComes, CutIs, JoinsAre, LiesAt, LookThere, LooksFit, NoteIs, ShutIs, SleepIs, asleep, parked, runs_it, waits_at}
 use Rattle.um_refinement.specs.Threads.{cutters}
 use Rattle.um_refinement.specs.Timing.{ClockIs, ExpiryComes, IsUnarmed, MarksAre, OwedIs, TimeoutComes, TimerIs}
 use Rattle.um_refinement.proofs.First.{first, none-some, total-none}
@@ -32,6 +32,10 @@ indexed-flag g i (x ∷ xs) (suc t) = by (indexed-flag g (i + 1) xs t)
 -- the object of each thread that lives is marked
 abbrev pub OwnMarked : Image → Type 0
 OwnMarked image = (t : ℕ) → t < THREADS → is_living (thread_at (opening image) t).life ≡ true → (object_at (opening image) (own_row image t)).init ≡ true
+
+-- a thread whose own object is marked keeps it
+abbrev pub OwnKept : Image → Type 0
+OwnKept image = (t : ℕ) → t < THREADS → HasOwn image t → (object_at (opening image) (own_row image t)).init ≡ true → (thread_at (opening image) t).keeps_own ≡ true
 
 -- the thread of the first boot entry was started
 abbrev pub HasActor : Image → Type 0
@@ -100,14 +104,14 @@ module _ (image : Image) (cpus : ℕ) where
           e ∙ (ap (λ n. not (object_at m (own_row m.image n)).init) at ∙ ap (λ (i : Image). not (object_at m (own_row i t)).init) (opening-image image))
       by (inr r) = let long = threads-long image in let l = r.1 in absurd (omega (arith, few, long, l))
 
-  pub shut-first : OwnMarked image → (t : ℕ) → t < THREADS → ShutIs f m t
-  shut-first marked t few =
+  pub shut-first : OwnMarked image → OwnKept image → (t : ℕ) → t < THREADS → ShutIs f m t
+  shut-first marked kept t few =
       record {
         dead = λ shut living.
             let init = marked t few (ap is_living living) in
             true≢false (sym shut ∙ (shut-is t few ∙ ap not init));
         alone = λ shut. refl;
-        marked = λ unshut. unnot (object_at m (own_row image t)).init (sym (shut-is t few) ∙ unshut);
+        owned = λ own unshut. keeps (kept t few own (unnot (object_at m (own_row image t)).init (sym (shut-is t few) ∙ unshut)));
         clears = λ k l runs h. absurd (false≢true runs);
         begins = λ k l h. absurd (none-some h);
       }

@@ -5,8 +5,11 @@ use Rattle.um_base.specs.declared.names.Timeout.{Timeout}
 use Rattle.um_machine.specs.Joins as Plain
 use Rattle.um_fine.specs.Joins.{is_shut, join_answer, open_says}
 use Rattle.um_refinement.specs.Fine.{joins}
+use Rattle.um_refinement.specs.Stops.{HasOwn}
 use Rattle.um_refinement.proofs.Kept.{joins-sort}
 use Rattle.um_refinement.proofs.Offered.{IsStep, Shows, act-is, machine-step, says-at, site-is}
+use Rattle.um_refinement.proofs.Reachable.{IsSound}
+use Rattle.um_refinement.proofs.ShutMarked.{owned-marked}
 
 -- behind the end of a list stands what is asked for there
 pub beyond : {A : Type 0} (xs : List A) (t : ℕ) (d : A) → length xs ≤ t → slice_index_or xs t d ≡ d
@@ -28,12 +31,12 @@ module _ (f : Fine) (m : State) (rel : Rel f m) (long : length m.threads ≡ THR
       by true few = unliving (thread_at m who).life ((rel.threads who (ltb-true who THREADS few)).shut.dead shut)
       by false past = let l = ltb-false who THREADS past in ap (λ (me : Thread). is_living me.life) (beyond m.threads who nobody (omega (arith, l, long)))
 
-  -- one that isn't shut has an initialised object
-  pub open-stands : is_shut (joins f) who ≡ false → (object_at m (own_row m.image who)).init ≡ true
-  open-stands unshut = by (nat_lt who THREADS) refl
+  -- the own object of one that isn't shut is initialised
+  pub open-stands : IsSound m → HasOwn f.image who → is_shut (joins f) who ≡ false → (object_at m (own_row m.image who)).init ≡ true
+  open-stands sound own unshut = by (nat_lt who THREADS) refl
     where
       by : (b : Bool) → nat_lt who THREADS ≡ b → (object_at m (own_row m.image who)).init ≡ true
-      by true few = ap (λ (i : Image). (object_at m (own_row i who)).init) rel.image ∙ (rel.threads who (ltb-true who THREADS few)).shut.marked unshut
+      by true few = owned-marked f m rel sound who ((rel.threads who (ltb-true who THREADS few)).shut.owned own unshut)
       by false past =
           let l = ltb-false who THREADS past in
           let wide = rel.joins.shut in absurd (true≢false (sym (beyond (joins f).shut who true (omega (arith, l, wide))) ∙ unshut))
@@ -70,12 +73,12 @@ module _ {f : Fine} {m : State} {k : ℕ} {e : FineStep} {rest : Steps} {todo : 
   may-say (Timeout.Ticks n) init = or-true (Plain.deadlocks m (f.processors k).context.thread who.0) init
   may-say Timeout.Forever init = or-true (Plain.deadlocks m (f.processors k).context.thread who.0) init
 
-  pub join-step : (x : ℕ) × IsStep f m k e x (Pending.Join who timeout)
-  join-step = by (is_shut (joins f) who.0) refl
+  pub join-step : IsSound m → HasOwn f.image who.0 → (x : ℕ) × IsStep f m k e x (Pending.Join who timeout)
+  join-step sound own = by (is_shut (joins f) who.0) refl
     where
       said : (b : Bool) → is_shut (joins f) who.0 ≡ b → answer_in (act_in e.act) ≡ (if b then Answer.Now (Reply.Num 0) else open_says (joins f) (f.processors k).context.thread who.0 timeout)
       said b shut = sym join-says ∙ ap (λ c. if c then Answer.Now (Reply.Num 0) else open_says (joins f) (f.processors k).context.thread who.0 timeout) shut
 
       by : (b : Bool) → is_shut (joins f) who.0 ≡ b → (x : ℕ) × IsStep f m k e x (Pending.Join who timeout)
       by true shut = (1, machine-step h 1 (act-is h) (ap not (shut-dead f m h.rel long who.0 shut)) (ap (Act.Join who) (said true shut)))
-      by false unshut = (0, machine-step h 0 (act-is h) (may-say timeout (open-stands f m h.rel long who.0 unshut)) (ap (Act.Join who) (said false unshut ∙ open-same timeout)))
+      by false unshut = (0, machine-step h 0 (act-is h) (may-say timeout (open-stands f m h.rel long who.0 sound own unshut)) (ap (Act.Join who) (said false unshut ∙ open-same timeout)))

@@ -14,7 +14,7 @@ use Rattle.um_fine.specs.Follows.{shown_step}
 use Rattle.um_fine.specs.Joins.{is_shut}
 use Rattle.um_fine.specs.Processor.{actor_or}
 use Rattle.um_refinement.specs.Fine.{joins}
-use Rattle.um_refinement.specs.Stops.{clears_own}
+use Rattle.um_refinement.specs.Stops.{HasOwn, clears_own}
 use Rattle.um_refinement.proofs.CallsProper.{AreProper, offered-proper}
 use Rattle.um_refinement.proofs.CallSteps.{Proper}
 use Rattle.um_refinement.proofs.FutexSteps.{wait-step, wake-step}
@@ -199,7 +199,9 @@ module _ (f : Fine) (m : State) (e : FineStep) (law : Lawful f m e) (suits : Sui
     shown-step (Pending.Abort who) h = (tt, 0, abort-step who (abort-below p.context.thread who rest (shown-offers h)) h)
     shown-step (Pending.Suspend who) h = (tt, 0, suspend-step who (suspend-below p.context.thread who rest (shown-offers h)) h)
     shown-step (Pending.Continue who) h = (tt, 0, continue-step who (continue-below p.context.thread who rest (shown-offers h)) h)
-    shown-step (Pending.Join who timeout) h = let r = join-step law.sound.wide.threads who timeout h in (tt, r.0, r.1)
+    shown-step (Pending.Join who timeout) h =
+        let own = (offered-proper m p.context.thread 0 (suits.proper p.context.thread) (Pending.Join who timeout) rest (shown-offers h)).0.0 in
+        let r = join-step law.sound.wide.threads who timeout h law.sound (subst (λ (i : Image). HasOwn i who.0) law.rel.image own) in (tt, r.0, r.1)
     shown-step (Pending.FutexWait a value timeout) h = (tt, 0, wait-step (wait-domain all h) a value timeout h)
     shown-step (Pending.FutexWake a wakes_all) h = (tt, 0, wake-step (held-domain all h tt refl) a wakes_all h)
     shown-step (Pending.ClearInit a) h = (tt, 0, machine-step h 0 (act-is h) (clear-chosen a rest todo h) refl)

@@ -55,6 +55,7 @@ pub mod FirstObjects
 pub mod FirstReady
 pub mod Opens
 pub mod FirstLawful
+pub mod FirstOwned
 pub mod Reachable
 pub mod Leaves
 pub mod ObjectsKept
@@ -67,6 +68,7 @@ pub mod CuttersKept
 pub mod WaitingSites
 pub mod StepReads
 pub mod ListRuns
+pub mod ListStarts
 pub mod RunningPart
 pub mod SchedulerPart
 pub mod PlacesFacts

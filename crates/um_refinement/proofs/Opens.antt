@@ -4,11 +4,11 @@ use Rattle.um_refinement.proofs.Words.{true, ℕ, ◌≤◌, [], length, Image, 
 use Rattle.um_refinement.proofs.First.{blocks-first, cleaning-first, domains-first, first, held-first, idle-first, kept-first, lists-first, looks-first, running-first, sorts-along, tables-first}
 use Rattle.um_refinement.proofs.FirstObjects.{OwnStands, claims-first, cleaner-first, cleaners-first, contents-first, heap-first, opening-image, pairs-all-first, status-first}
 use Rattle.um_refinement.proofs.FirstReady.{OneEach, ready-first}
-use Rattle.um_refinement.proofs.FirstStops.{HasActor, OwnMarked, clock-first, cut-comes-first, cut-first, expiry-first, joins-first, look-there-first, looks-fit-first, marks-first, note-first, owed-first, shut-first, sleep-first, timeout-first, timer-first, unarmed-first}
+use Rattle.um_refinement.proofs.FirstStops.{HasActor, OwnKept, OwnMarked, clock-first, cut-comes-first, cut-first, expiry-first, joins-first, look-there-first, looks-fit-first, marks-first, note-first, owed-first, shut-first, sleep-first, timeout-first, timer-first, unarmed-first}
 use Rattle.um_refinement.proofs.FirstThreads.{away-first, contexts-first, dues-first, memory-first, scheduler-first, told-first, words-first}
 
-pub opens : (image : Image) (cpus : ℕ) → length image.objects ≤ STATIC_ROWS → OneEach image cpus → OwnStands image cpus → OwnMarked image → HasActor image → Rel (first image cpus) (opening image)
-opens image cpus few one stands marked acts =
+pub opens : (image : Image) (cpus : ℕ) → length image.objects ≤ STATIC_ROWS → OneEach image cpus → OwnStands image cpus → OwnMarked image → OwnKept image → HasActor image → Rel (first image cpus) (opening image)
+opens image cpus few one stands marked kept acts =
     record {
       image = opening-image image;
       sorts = sorts-along image [];
@@ -27,7 +27,7 @@ opens image cpus few one stands marked acts =
             cut_comes = cut-comes-first image cpus t;
             looks = looks-fit-first image cpus t;
             sleep = sleep-first image cpus t;
-            shut = shut-first image cpus marked t l;
+            shut = shut-first image cpus marked kept t l;
             timeout = timeout-first image cpus t;
           };
       rows = λ x l.

@@ -45,6 +45,7 @@ use Rattle.um_refinement.proofs.ShutAlone.{shut-alone}
 use Rattle.um_refinement.proofs.ShutBegins.{begins-part}
 use Rattle.um_refinement.proofs.ShutClears.{clears-part}
 use Rattle.um_refinement.proofs.ShutDead.{shut-dead}
+use Rattle.um_refinement.proofs.ShutOpened.{shut-opened}
 use Rattle.um_refinement.proofs.DomainPart.{domain-part}
 use Rattle.um_refinement.proofs.DomainsKnown.{started-placed}
 use Rattle.um_refinement.proofs.DonePart.{done-part}
@@ -126,13 +127,12 @@ module _ (f : Fine) (m : State) (e : FineStep) (law : Lawful f m e) where
     pub untils : UntilsAre s
     pub aborted : AreAborted s
 
-  -- of each thread, what is still to be shown: that it has noted the cell in which it begins to wait, and that the cell keeps the number; that it has
-  -- no note where a step leaves it at rest; and of who is shut
+  -- of each thread, what is still to be shown: that it has noted the cell in which it begins to wait, and that the cell keeps the number; and that it
+  -- has no note where a step leaves it at rest
   pub record ToShow (s : State) (how : Leaves f m e s) (t : ℕ) (few : t < THREADS) : Type 0 where
     pub noted : (c : ℕ) → c < ROWS + 2 → Begun f m e t c → (word f t).note ≡ Some (cell_site c)
     pub kept : (x : ℕ) (c : Context) → x < ROWS + 2 → Begun f m e t x → LiesAt later t c → c.noted ≡ Some (noted_at later x t)
     pub rest : Rests f m e law t few s how → (word f t).note ≡ None
-    pub marked : is_shut (joins later) t ≡ false → (object_at s (own_row f.image t)).init ≡ true
 
   -- the relation holds after the step
   pub related : OwnRows f.image → InDomains f m → Suits f m → IsLawful m.image → AreProper m.image m → DuesKnown m → NamesHeld m → GivesHeld m → MovesIn m (length f.image.domains) → AreQueues m
@@ -157,7 +157,7 @@ module _ (f : Fine) (m : State) (e : FineStep) (law : Lawful f m e) where
               cut_comes = cut-comes-part f m e law known.holding suits.waits t l s how;
               looks = looks-part f m e law s how t l;
               sleep = sleep-part f m e law s how t l;
-              shut = record { dead = shut-dead f m e law proper t l s how; alone = shut-alone f m e law t l s how; marked = (more t l).marked; clears = clears-part f m e law proper t l s how; begins = begins-part f m e law proper t l s how };
+              shut = record { dead = shut-dead f m e law proper t l s how; alone = shut-alone f m e law t l s how; owned = λ own. shut-opened f m e law t l s how ((law.rel.threads t l).shut.owned own); clears = clears-part f m e law proper t l s how; begins = begins-part f m e law proper t l s how };
               timeout = timeout-part f m e law known.holding suits.waits t l s how goes known.waits known.untils;
             };
         rows = λ x l.

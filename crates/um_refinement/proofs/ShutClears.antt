@@ -18,7 +18,8 @@ use Rattle.um_refinement.proofs.ListGrowth.{acted-kept, behind-kept, cleaning-ke
 use Rattle.um_refinement.proofs.Offered.{own-unless}
 use Rattle.um_refinement.proofs.ParkedPart.{joins-else, joins-later}
 use Rattle.um_refinement.proofs.SchedulerSteps.{made-at, made-says}
-use Rattle.um_refinement.proofs.ShutBegins.{claimed-idle, list-claims}
+use Rattle.um_refinement.proofs.ListStarts.{list-claims}
+use Rattle.um_refinement.proofs.ShutBegins.{claimed-idle}
 use Rattle.um_refinement.proofs.StepsLeft.{offered-on}
 
 -- What is cleared on a list after a step was cleared behind that step.

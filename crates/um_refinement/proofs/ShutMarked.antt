@@ -1,12 +1,11 @@
 -- The object of an index that a thread keeps, or that a processor starts next, is initialised.
 use Rattle.um_refinement.proofs.Words.{◌≡◌, ℕ, ◌<◌, true, Some, refl, sym, ap, ◌∙◌, is_some, Image, own_row, Thread, State, object_at, thread_at, claims, Call, call_is, Fine, Rel}
 use Rattle.um_invariants.proofs.Cores.{init_is}
-use Rattle.um_refinement.specs.Stops.{starts}
+use Rattle.um_refinement.specs.Stops.{IsOwned, keeps, starting, starts}
 use Rattle.um_refinement.proofs.HandReads.{read-runs}
 use Rattle.um_refinement.proofs.Offered.{own-unless}
 use Rattle.um_refinement.proofs.Reachable.{IsSound}
-use Rattle.um_refinement.proofs.ShutBegins.{list-claims}
-use Rattle.um_refinement.proofs.ShutOpened.{IsOwned, keeps, starting}
+use Rattle.um_refinement.proofs.ListStarts.{list-claims}
 
 module _ (f : Fine) (m : State) (rel : Rel f m) (sound : IsSound m) (t : ℕ) where
   claimed : (k : ℕ) → k < f.cpus → starts (f.processors k).todo ≡ Some t → claims m.image t (thread_at m (f.processors k).context.thread).pending ≡ true

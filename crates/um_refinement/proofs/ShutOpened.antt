@@ -7,7 +7,7 @@ use Rattle.um_fine.specs.Follows.{shown_step}
 use Rattle.um_fine.specs.Joins.{Joins, begins_waiting, is_shut, join_after}
 use Rattle.um_refinement.specs.Fine.{joins}
 use Rattle.um_refinement.specs.Frames.{starts_one}
-use Rattle.um_refinement.specs.Stops.{clears_own, starts}
+use Rattle.um_refinement.specs.Stops.{IsOwned, keeps, starting, clears_own, starts}
 use Rattle.um_refinement.proofs.Erased.{around}
 use Rattle.um_refinement.proofs.JoinsPart.{cell-untouched}
 use Rattle.um_refinement.proofs.Leaves.{Beside, Lawful, Leaves, beside as beside_it, cleans, cuts, drops, event, expires, leaves as leaves_it, mine, nothing, passes, recycles, resumes, ticks, times_out}
@@ -16,14 +16,9 @@ use Rattle.um_refinement.proofs.Offered.{IsStep, Shows, at-made, shows-runs}
 use Rattle.um_refinement.proofs.OwnObjects.{Spares, keeps-after, starts-keeping}
 use Rattle.um_refinement.proofs.ParkedPart.{joins-else, joins-later}
 use Rattle.um_refinement.proofs.SchedulerSteps.{made-says}
-use Rattle.um_refinement.proofs.ShutBegins.{some-number, starts-reads}
+use Rattle.um_refinement.proofs.ListStarts.{some-number, starts-reads}
 use Rattle.um_refinement.proofs.StepReads.{is-behind, reads-last}
 use Rattle.um_refinement.proofs.WordsKept.{IsShown}
-
--- a thread keeps its own object, or a processor starts it next
-pub data IsOwned (f : Fine) (m : State) (t : ℕ) : Type 0 where
-  keeps : (thread_at m t).keeps_own ≡ true → IsOwned f m t
-  starting : (k : ℕ) → k < f.cpus → starts (f.processors k).todo ≡ Some t → IsOwned f m t
 
 abbrev is_unshut_act : FineAct → Bool
 is_unshut_act (FineAct.Unseen (Unseen.Unshut who)) = true

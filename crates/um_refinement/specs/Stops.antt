@@ -3,10 +3,11 @@ use Rattle.std.specs.Prelude.{◌≡◌, ◌≢◌, ◌⊎◌, ℕ, ◌+◌, ◌
 use Rattle.std.specs.List.{list_all, list_any}
 use Rattle.um_base.specs.declared.limits.TheConstants.{FUTEX_CELL, JOIN_CELL, ROWS, THREADS}
 use Rattle.um_base.specs.declared.image.Image.{Image}
-use Rattle.um_base.specs.Places.{own_row}
+use Rattle.um_base.specs.declared.image.Image.{Image}
+use Rattle.um_base.specs.Places.{own_row, thread_of_row}
 use Rattle.um_machine.specs.declared.pending.Pending.{Pending}
 use Rattle.um_machine.specs.declared.thread.Life.{Life}
-use Rattle.um_machine.specs.State.{State, thread_at, object_at, waiters_in}
+use Rattle.um_machine.specs.State.{State, thread_at, waiters_in}
 use Rattle.um_fine.specs.Context.{Context}
 use Rattle.um_fine.specs.Addresses.{row_named}
 use Rattle.um_fine.specs.Joins.{asleep_at, is_joined, is_shut}
@@ -141,12 +142,21 @@ starts (Todo.unshut who ∷ todo) = None
 starts (Todo.show (Pending.Start who script stack priority mode) rest ∷ todo) = Some who.0
 starts (q ∷ todo) = starts todo
 
--- Nobody joins an index that is shut, which doesn't live. The thread object of one that isn't shut is initialised. It is shut when its own
--- object is cleared, and isn't when it starts.
+-- the object of a thread index is its own
+abbrev pub HasOwn : Image → ℕ → Type 0
+HasOwn image t = thread_of_row image (own_row image t) ≡ Some t
+
+-- a thread keeps its own object, or a processor starts it next
+pub data IsOwned (f : Fine) (m : State) (t : ℕ) : Type 0 where
+  keeps : (thread_at m t).keeps_own ≡ true → IsOwned f m t
+  starting : (k : ℕ) → k < f.cpus → starts (f.processors k).todo ≡ Some t → IsOwned f m t
+
+-- Nobody joins an index that is shut, which doesn't live. One with an object of its own that isn't shut is of a thread that keeps that object, or is
+-- started next. It is shut when its own object is cleared, and isn't when it starts.
 pub record ShutIs (f : Fine) (m : State) (t : ℕ) : Type 0 where
   pub dead : is_shut (joins f) t ≡ true → (thread_at m t).life ≢ Life.Living
   pub alone : is_shut (joins f) t ≡ true → is_joined (joins f) t ≡ false
-  pub marked : is_shut (joins f) t ≡ false → (object_at m (own_row f.image t)).init ≡ true
+  pub owned : HasOwn f.image t → is_shut (joins f) t ≡ false → IsOwned f m t
   pub clears : (k : ℕ) → k < f.cpus → runs_thread t (f.processors k) ≡ true → clears_own f (f.processors k) (f.processors k).todo ≡ true → is_shut (joins f) t ≡ true
   pub begins : (k : ℕ) → k < f.cpus → starts (f.processors k).todo ≡ Some t → is_shut (joins f) t ≡ false
 
