@@ -21,16 +21,15 @@ const JOINS: u16 = 308;
 
 impl Running {
     /// The step behind the next one.
+    #[tactic(auto, using(um_tables::proofs::Fronts::dropped_twice))]
     fn behind(&mut self) -> Pending
         ensures step { result ≡ first_of (rest_of self.old) }
         ensures same { self.new ≡ self.old }
     {
-        let behind = if self.visited {
-            self.context.third()
-        } else {
-            self.context.second()
-        };
-        behind.unwrap_or(Pending::Resume)
+        if self.visited {
+            return self.third_step();
+        }
+        self.second_step()
     }
 
     /// Arms a deadline so many ticks from now, for the act behind this step.

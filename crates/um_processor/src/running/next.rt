@@ -316,7 +316,7 @@ impl Running {
     }
 
     /// The second step of those that are left.
-    fn second_step(&self) -> Pending
+    pub fn second_step(&self) -> Pending
         ensures { result ≡ first_of (drop 1 self.now.context.value.pending) }
     {
         match self.context.second() {
@@ -326,7 +326,7 @@ impl Running {
     }
 
     /// The third one.
-    fn third_step(&mut self) -> Pending
+    pub fn third_step(&mut self) -> Pending
         ensures step { result ≡ first_of (drop 2 self.old.context.value.pending) }
         ensures same { self.new ≡ self.old }
     {
