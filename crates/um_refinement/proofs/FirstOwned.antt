@@ -1,5 +1,5 @@
 -- At the opening of every image that a description can give a thread whose own object is initialised keeps it: a boot entry starts it.
-use Rattle.um_refinement.proofs.Words.{◌≡◌, ◌⊎◌, inl, inr, ℕ, zero, suc, eq-eqb, ◌+◌, ◌<◌, ◌≤◌, Bool, true, false, List, [], ◌∷◌, length, Option, Some, None, refl, sym, ap, ◌∙◌, subst, arith, ◌==◌, ◌||◌, if◌then◌else◌, is_some, nat_lt, lt-ltb, slice_get, slice_index_or, unwrap_or, list_all, list_any, and_parts, eqb-true, false≢true, true≢false, Boot, Image, ObjectDef, Setup, THREADS, STATIC_ROWS, STATIC_THREADS, ◌-◌, is_lawful_boot, index_or, own_row, setup_at, setup_thread, thread_of_row, Object, objects_from, opening, State, object_at, thread_at, vacant, IsDescribed, is_sited, Call, call_is, core_of, occurs, map, IsBoot}
+use Rattle.um_refinement.proofs.Words.{◌≡◌, ◌⊎◌, inl, inr, ℕ, zero, suc, eq-eqb, ◌+◌, ◌<◌, ◌≤◌, Bool, true, false, List, [], ◌∷◌, length, Option, Some, None, refl, sym, ap, ◌∙◌, arith, ◌==◌, ◌||◌, if◌then◌else◌, is_some, nat_lt, lt-ltb, slice_get, slice_index_or, unwrap_or, list_all, list_any, and_parts, eqb-true, false≢true, true≢false, Boot, Image, ObjectDef, Setup, THREADS, STATIC_ROWS, STATIC_THREADS, ◌-◌, is_lawful_boot, index_or, own_row, setup_at, setup_thread, thread_of_row, Object, objects_from, opening, object_at, thread_at, vacant, IsDescribed, is_sited, Call, call_is, occurs, map, IsBoot}
 use Rattle.um_machine.specs.Run.{boots_row, is_set_up}
 use Rattle.um_machine.specs.State.{is_living}
 use Rattle.um_invariants.proofs.Opening.{is_opening}

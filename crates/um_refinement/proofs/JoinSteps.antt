@@ -1,6 +1,6 @@
 -- A processor's join of a thread is that step of the machine, where the relation holds: an index that is shut doesn't live, and the object of one that
 -- isn't is initialised; and so is that an end is told to those who wait for it.
-use Rattle.um_refinement.proofs.Words.{◌≡◌, ℕ, zero, suc, ◌≤◌, Bool, true, false, List, [], ◌∷◌, length, refl, sym, ap, ◌∙◌, subst, arith, ◌==◌, ◌&&◌, ◌||◌, not, IsTrue, if◌then◌else◌, list_any, nat_lt, slice_index_or, true≢false, ltb-false, ltb-true, THREADS, Act, Answer, Errno, Reply, ThreadIx, Waiter, own_row, Image, Pending, Steps, Thread, Life, is_living, State, nobody, object_at, thread_at, act_in, answer_in, FineStep, Site, SiteState, site_answers, Todos, shows, Fine, Rel}
+use Rattle.um_refinement.proofs.Words.{◌≡◌, ℕ, zero, suc, ◌≤◌, Bool, true, false, List, [], ◌∷◌, length, refl, sym, ap, ◌∙◌, subst, arith, ◌==◌, ◌&&◌, ◌||◌, not, IsTrue, if◌then◌else◌, list_any, nat_lt, slice_index_or, true≢false, ltb-false, ltb-true, THREADS, Act, Answer, Errno, Reply, ThreadIx, Waiter, own_row, Pending, Steps, Thread, Life, is_living, State, nobody, object_at, thread_at, act_in, answer_in, FineStep, Site, SiteState, site_answers, Todos, shows, Fine, Rel}
 use Rattle.um_base.specs.declared.names.Timeout.{Timeout}
 use Rattle.um_machine.specs.Joins as Plain
 use Rattle.um_fine.specs.Joins.{is_shut, join_answer, open_says}

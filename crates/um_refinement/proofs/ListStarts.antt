@@ -1,14 +1,10 @@
 -- Which thread a list starts next: one that the steps of the list's own thread claim.
-use Rattle.um_refinement.proofs.Words.{◌≡◌, ◌⊎◌, inl, inr, ℕ, ◌<◌, Bool, true, false, cond, [], ◌∷◌, ◌++◌, Option, Some, None, refl, sym, ap, ◌∙◌, subst, arith, ◌==◌, if◌then◌else◌, is_some, unwrap_or, and_parts, eqb-true, eq-eqb, false≢true, true≢false, get_or-set_same, slice_index_or, slice_set, THREADS, Image, Amount, Pending, Steps, Thread, State, thread_at, to_thread, own_row, row_named, claims, Call, call_is, waits, FineAct, Unseen, FineStep, Context, Todo, Todos, fine_steps, p_next, Fine, Fits, IsOffered, behind_shown, runs}
-use Rattle.um_machine.specs.Joins as Plain
-use Rattle.um_fine.specs.Joins.{Joins, is_shut}
+use Rattle.um_refinement.proofs.Words.{◌≡◌, ℕ, true, false, [], ◌∷◌, ◌++◌, Option, Some, None, refl, sym, ap, ◌∙◌, ◌==◌, if◌then◌else◌, is_some, unwrap_or, eq-eqb, false≢true, Image, Amount, Pending, Steps, own_row, row_named, claims, waits, Context, Todo, Todos, fine_steps, Fits, IsOffered, behind_shown}
 use Rattle.um_fine.specs.Places.{armed_for, clearing, noted_cell, noting, on_memory, settling}
-use Rattle.um_refinement.specs.Fine.{joins}
-use Rattle.um_refinement.specs.Frames.{AreFramed, IsActOver, access_alone, access_settled, act_alone, act_settled, starts_one}
+use Rattle.um_refinement.specs.Frames.{IsActOver, access_alone, access_settled, act_alone, act_settled, starts_one}
 use Rattle.um_refinement.specs.Offers as O
 use Rattle.um_refinement.specs.Stops.{starts}
-use Rattle.um_refinement.proofs.HandReads.{read-runs}
-use Rattle.um_refinement.proofs.ListTails.{Reads, adds-pass, is_passed, takes-read, whole-read}
+use Rattle.um_refinement.proofs.ListTails.{Reads, is_passed}
 use Rattle.um_refinement.proofs.StepsLeft.{offered-on}
 
 starts-passed : (q : Todo) (todo : Todos) → is_passed q ≡ true → starts (q ∷ todo) ≡ starts todo

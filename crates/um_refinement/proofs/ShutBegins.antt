@@ -1,10 +1,9 @@
 -- A thread that is started next isn't shut, after every lawful step: it is opened right before, and only its own end shuts it.
-use Rattle.um_refinement.proofs.Words.{◌≡◌, ◌⊎◌, inl, inr, ℕ, ◌<◌, Bool, true, false, cond, [], ◌∷◌, ◌++◌, Option, Some, None, refl, sym, ap, ◌∙◌, subst, arith, ◌==◌, if◌then◌else◌, is_some, unwrap_or, and_parts, eqb-true, eq-eqb, false≢true, true≢false, get_or-set_same, slice_index_or, slice_set, THREADS, Image, Amount, Pending, Steps, Thread, State, thread_at, to_thread, own_row, row_named, claims, Call, call_is, waits, FineAct, Unseen, FineStep, Context, Todo, Todos, fine_steps, p_next, Fine, Fits, IsOffered, behind_shown, runs}
+use Rattle.um_refinement.proofs.Words.{◌≡◌, ◌⊎◌, inl, inr, ℕ, ◌<◌, Bool, true, false, cond, [], ◌∷◌, Some, None, refl, sym, ap, ◌∙◌, subst, arith, ◌==◌, is_some, and_parts, eqb-true, false≢true, true≢false, get_or-set_same, slice_index_or, slice_set, THREADS, Image, Pending, Steps, Thread, State, thread_at, to_thread, claims, Call, call_is, waits, FineAct, Unseen, FineStep, Context, Todo, Todos, p_next, Fine, Fits, runs}
 use Rattle.um_machine.specs.Joins as Plain
 use Rattle.um_fine.specs.Joins.{Joins, is_shut}
-use Rattle.um_fine.specs.Places.{armed_for, clearing, noted_cell, noting, on_memory, settling}
 use Rattle.um_refinement.specs.Fine.{joins}
-use Rattle.um_refinement.specs.Frames.{AreFramed, IsActOver, access_alone, access_settled, act_alone, act_settled, starts_one}
+use Rattle.um_refinement.specs.Frames.{AreFramed, starts_one}
 use Rattle.um_refinement.specs.Offers as O
 use Rattle.um_refinement.specs.Stops.{starts}
 use Rattle.um_refinement.proofs.CallsProper.{AreProper}
@@ -13,13 +12,12 @@ use Rattle.um_refinement.proofs.HandReads.{read-runs}
 use Rattle.um_refinement.proofs.LeaveSteps.{leave-ending}
 use Rattle.um_refinement.proofs.Leaves.{Lawful, Leaves}
 use Rattle.um_refinement.proofs.ListStarts.{behind-none, list-claims, some-number, starts-reads}
-use Rattle.um_refinement.proofs.ListTails.{Reads, adds-pass, is_passed, takes-read, whole-read}
+use Rattle.um_refinement.proofs.ListTails.{adds-pass, takes-read, whole-read}
 use Rattle.um_refinement.proofs.Offered.{own-unless}
 use Rattle.um_refinement.proofs.ParkedPart.{joins-later}
 use Rattle.um_refinement.proofs.SchedulerSteps.{made-at, made-says}
 use Rattle.um_refinement.proofs.ShutDead.{shut-by}
 use Rattle.um_refinement.proofs.StepReads.{reads-last}
-use Rattle.um_refinement.proofs.StepsLeft.{offered-on}
 
 module _ (f : Fine) (m : State) (e : FineStep) (law : Lawful f m e) (proper : AreProper m.image m) (t : ℕ) (few : t < THREADS) (s : State) (left : Leaves f m e s) where
   open around f e use {later, processor as p, now}
@@ -73,7 +71,7 @@ module _ (f : Fine) (m : State) (e : FineStep) (law : Lawful f m e) (proper : Ar
       behind q todo at =
           sym
           (whole-read f.image starts None (starts-reads f.image) (λ z. refl) (λ d z. refl) p e q todo at (adds-pass f.image starts None (starts-reads f.image) (λ c z. refl) q) (frame q todo at).0
-            (reads-last f m e law q todo at))
+          (reads-last f m e law q todo at))
           ∙ next
 
       none : {A : Type 0} (todo : Todos) → starts todo ≡ None → starts todo ≡ Some t → A
