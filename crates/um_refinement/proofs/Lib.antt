@@ -197,8 +197,10 @@ pub mod LooksPart
 pub mod NoteNumbers
 pub mod NoteSteps
 pub mod NotesAtRest
+pub mod NotesBegun
 pub mod NotesHeld
 pub mod NotesKept
+pub mod NotesPut
 pub mod NotesThere
 pub mod WaitNotes
 pub mod WaitsKept

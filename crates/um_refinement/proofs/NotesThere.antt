@@ -90,7 +90,7 @@ noted-killed true c = refl
 noted-killed false c = refl
 
 -- lists whose first step may change a note
-abbrev shows_first : Todos → Bool
+abbrev pub shows_first : Todos → Bool
 shows_first (Todo.show q rest ∷ todo) = true
 shows_first todo = false
 

@@ -35,10 +35,11 @@ use Rattle.um_refinement.proofs.WaitsKept.{Begun, waits-noted}
 use Rattle.um_refinement.proofs.WaitersKnown.{UntilsAre, WaitersHold, holds-known, untils-known}
 use Rattle.um_fine.specs.Joins.{is_shut}
 use Rattle.um_refinement.specs.Fine.{joins}
-use Rattle.um_refinement.specs.Stops.{LiesAt, cell_site, noted_at}
+use Rattle.um_refinement.specs.Stops.{cell_site, notes_in}
 use Rattle.um_refinement.proofs.NoteCells.{note-cell}
 use Rattle.um_refinement.proofs.NoteNumbers.{note-number}
 use Rattle.um_refinement.proofs.NotesAtRest.{Rests, notes-at-rest}
+use Rattle.um_refinement.proofs.NotesBegun.{notes-begun}
 use Rattle.um_refinement.proofs.NotesHeld.{notes-held}
 use Rattle.um_refinement.proofs.NotesThere.{note-there}
 use Rattle.um_refinement.proofs.ShutAlone.{shut-alone}
@@ -127,11 +128,11 @@ module _ (f : Fine) (m : State) (e : FineStep) (law : Lawful f m e) where
     pub untils : UntilsAre s
     pub aborted : AreAborted s
 
-  -- of each thread, what is still to be shown: that it has noted the cell in which it begins to wait, and that the cell keeps the number; and that it
+  -- of each thread, what is still to be shown: that it has noted the cell in which it begins to wait, and that the cell has a place for each thread; and that it
   -- has no note where a step leaves it at rest
   pub record ToShow (s : State) (how : Leaves f m e s) (t : ℕ) (few : t < THREADS) : Type 0 where
     pub noted : (c : ℕ) → c < ROWS + 2 → Begun f m e t c → (word f t).note ≡ Some (cell_site c)
-    pub kept : (x : ℕ) (c : Context) → x < ROWS + 2 → Begun f m e t x → LiesAt later t c → c.noted ≡ Some (noted_at later x t)
+    pub long : (x : ℕ) → x < ROWS + 2 → Begun f m e t x → length (notes_in f x) ≡ THREADS
     pub rest : Rests f m e law t few s how → (word f t).note ≡ None
 
   -- the relation holds after the step
@@ -152,7 +153,7 @@ module _ (f : Fine) (m : State) (e : FineStep) (law : Lawful f m e) where
               told = told;
               held = held-part f m e law t l;
               ready = ready-part f m e law suits.tells t l;
-              note = record { there = note-there f m e law s how t l; number = note-number f m e law s how t l; cell = note-cell f m e law t l; waits = waits-noted f m e law suits.waits t l s how (more t l).noted; kept = notes-held f m e law suits.waits t l s how (more t l).kept; rest = notes-at-rest f m e law t l s how (more t l).rest };
+              note = record { there = note-there f m e law s how t l; number = note-number f m e law s how t l; cell = note-cell f m e law t l; waits = waits-noted f m e law suits.waits t l s how (more t l).noted; kept = notes-held f m e law suits.waits t l s how (λ x c inside new lies. notes-begun f m e law suits.waits t l s how x c new ((more t l).noted x inside new) ((more t l).long x inside new) lies); rest = notes-at-rest f m e law t l s how (more t l).rest };
               cut = cut-part f m e law s how t l known.tells known.aborted told;
               cut_comes = cut-comes-part f m e law known.holding suits.waits t l s how;
               looks = looks-part f m e law s how t l;

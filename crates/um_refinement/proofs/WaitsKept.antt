@@ -124,7 +124,7 @@ module _ (f : Fine) (m : State) (e : FineStep) (law : Lawful f m e) (wait : Wait
           quiet (tells_left todo at said) starts = starts
 
   -- a step with which a thread begins to wait leaves the notes of words
-  begun-stays : (c : ℕ) → Begun f m e t c → (word later t).note ≡ (word f t).note
+  pub begun-stays : (c : ℕ) → Begun f m e t c → (word later t).note ≡ (word f t).note
   begun-stays c (begun (Pending.Work a ask) rest todo x h is same starts) = note-same f m e law t few _ is.said (λ w. refl)
   begun-stays c (begun (Pending.Join who timeout) rest todo x h is same starts) = note-same f m e law t few _ is.said (λ w. refl)
   begun-stays c (begun (Pending.FutexWait a value timeout) rest todo x h is same starts) = note-same f m e law t few _ is.said (λ w. refl)
