@@ -1,6 +1,8 @@
 //! Acts at no object: a deadline is armed, the end of a thread is awaited, and a futex.
 
-ghost use Rattle.std.specs.Prelude.{◌≡◌, [], drop, false};
+ghost use Rattle.std.specs.Prelude.{◌≡◌, ◌<◌, [], drop, false};
+ghost use Rattle.um_base.specs.declared.limits.TheConstants.{THREADS};
+ghost use Rattle.um_tables.specs.Seekers.{seeker_of};
 ghost use Rattle.um_machine.specs.Goes.{Change, Next, Way, asked_way, work_change};
 ghost use Rattle.um_machine.specs.declared.pending.Pending.TheVariants as Pending;
 ghost use Rattle.um_fine.specs.Places.{is_patient};
@@ -13,13 +15,28 @@ use crate::turns::made;
 use um_base::{Access, Addr, Answer, Image, ThreadIx, Timeout};
 use um_machine::Pending;
 use um_service::Outcome;
-use um_tables::{FutexWait, FutexWake, Here, Sites};
+use um_tables::{FutexWait, FutexWake, Here, Seeker, Sites};
 
 /// The sites of the cells of memory and of the joins.
 const MEMORY: u16 = 304;
 const JOINS: u16 = 308;
 
 impl Running {
+    /// Its thread, as one that may begin to wait.
+    fn seeker(&self) -> Seeker
+        ensures value { result ≡ seeker_of self.now.context.value }
+        ensures small { result.thread.0 < THREADS }
+    {
+        let thread = self.thread();
+        let seeker = self.context.seeker();
+        Seeker {
+            thread,
+            priority: seeker.priority,
+            until: seeker.until,
+            noted: seeker.noted,
+        }
+    }
+
     /// The step behind the next one.
     #[tactic(auto, using(um_tables::proofs::Fronts::dropped_twice))]
     fn behind(&mut self) -> Pending
@@ -96,7 +113,7 @@ impl Running {
         ensures turn { HasRun S.Sites result here.now sites.old sites.new
             (shows (Pending.Join who timeout) self.old) self.old self.new }
     {
-        let seeker = self.context.seeker();
+        let seeker = self.seeker();
         let answer = made!(sites.join(here, &seeker, who, timeout));
         self.joins(here.image, timeout, answer);
         Turn::Made
@@ -131,7 +148,7 @@ impl Running {
             (shows (Pending.FutexWait addr value timeout) self.old) self.old self.new }
     {
         let act = FutexWait {
-            seeker: self.context.seeker(),
+            seeker: self.seeker(),
             addr,
             value,
             allowed: self.allows(here.image, Access::Read, addr.0, 4),
