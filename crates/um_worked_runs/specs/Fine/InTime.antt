@@ -2,7 +2,7 @@
 use Rattle.std.specs.Prelude.{ℕ, ◌+◌, Bool, true, false, ◌==◌, ◌&&◌, ◌||◌, not, nat_le, nat_lt, List, [], ◌∷◌, ◌++◌, length, Option, Some, None, is_some}
 use Rattle.std.specs.List.{list_all, list_any}
 use Rattle.um_base.specs.declared.limits.TheConstants.{FUTEX_CELL, JOIN_CELL, THREADS}
-use Rattle.um_base.specs.Places.{own_row}
+use Rattle.um_base.specs.Places.{own_row, thread_of_row}
 use Rattle.um_machine.specs.declared.contents.Contents.{Contents}
 use Rattle.um_machine.specs.declared.pending.Pending.{Pending}
 use Rattle.um_machine.specs.declared.thread.Life.{Life}
@@ -127,7 +127,7 @@ module _ (n : Tested) (f : Fine) (m : State) where
   shut_is t =
       let shut = is_shut (joins f) t in
       implies shut (not (lives (thread_at m t).life) && not (is_joined (joins f) t))
-      && implies (not shut) (object_at m (own_row f.image t)).init
+      && implies (not shut && same_option (thread_of_row f.image (own_row f.image t)) (Some t)) ((thread_at m t).keeps_own || some_list (λ p. same_option (starts p.todo) (Some t)))
       && implies (some_list (λ p. runs_thread t p && clears_own f p p.todo)) shut
       && implies (some_list (λ p. same_option (starts p.todo) (Some t))) (not shut)
 
