@@ -13,7 +13,7 @@ use um_machine::Cost;
 use um_service::Outcome;
 use um_tables::ObjectCell;
 
-/// The cell of an object. As long as it keeps nothing and has taken no step nothing is written in it, since a cell is large.
+/// The cell of an object. A cell is large, so nothing is written to it before it keeps something or takes a step.
 #[derive(Drop)]
 pub struct ObjectRoom {
     /// The cell, or none of these.

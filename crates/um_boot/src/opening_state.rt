@@ -9,7 +9,7 @@ use std::marker::Model;
 use um_base::{AREA_SIZE, DOMAINS, Image, POOLS, Parts, ROWS, THREADS};
 use um_machine::Thread;
 
-/// A state of the machine in which the objects are still those of the image, which contracts see as the definitions have it.
+/// A state of the machine whose objects are still those of the image. Contracts see the state as the definitions have it.
 /// No object is made: the image says what stands at each row. No time has passed, and nobody waits.
 #[derive(Drop)]
 pub struct OpeningState<'a> {

@@ -72,7 +72,7 @@ pub fn every_board()
 /// - The board's history is one fine run that has the steps of each processor in their order, and no others.
 /// - The logs have an order, of no more steps than the image's weight.
 /// - Take a list of steps that orders each processor's and each site's steps as every order of the logs does. It is what the logs note of a
-///   fine run of these processors' steps, which has left each site as the board has it, and its events are a run of the access-matrix
+///   fine run of these processors' steps, which leaves each site as the board has it, and the run's events are a run of the access-matrix
 ///   machine.
 /// - If each processor saw after its last step that no thread is ready, and has no step to go on with, then none can make another step: each
 ///   fine run of their steps is over, and the events of such a list are a complete run.

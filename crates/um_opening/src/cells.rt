@@ -75,7 +75,7 @@ pub fn objects(alloc: Global, image: &Image) -> Result<ObjectCells, OutOfMemory>
     Ok(cells)
 }
 
-/// What is left in the pools, the dynamic addresses, which are free, and what each object cost: none did.
+/// The heap of the opening: what is left in each pool, the dynamic addresses, all free, and what each object cost, which is nothing.
 pub fn heap(alloc: Global, pools: Vec<u32>) -> Result<Heap, OutOfMemory>
     ensures { IfOk result (λ heap. heap ≡ heap_of pools.items) }
 {
