@@ -19,6 +19,7 @@ use crate::futex_act::{FutexWait, FutexWake};
 use crate::look::Look;
 use crate::slots::put;
 use um_base::{Addr, Answer, Ask, Errno, Image};
+use um_machine::Waiters;
 use um_service::{Woken, wake_futex};
 use um_steps::bytes::le_value;
 use um_steps::futexes::{futex_wait, is_futex, wake_answer};
@@ -85,5 +86,12 @@ impl Bytes {
         ensures left { self.new ≡ record self.old { futexes = left_by result look.now self.old.futexes } }
     {
         look.take_out(&mut self.futexes, &self.noted)
+    }
+
+    /// Those who wait on a futex.
+    pub fn futexes(&self) -> &Waiters
+        ensures { result.now ≡ self.now.futexes }
+    {
+        &self.futexes
     }
 }
