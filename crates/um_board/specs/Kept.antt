@@ -10,3 +10,5 @@ cell_of (Kept.Parts domain) = Cell.parts domain.value.parts
 cell_of (Kept.Memory memory) = Cell.memory memory.value
 cell_of (Kept.Heap heap) = Cell.heap heap.value
 cell_of (Kept.Scheduler scheduler) = Cell.scheduler scheduler.value
+cell_of (Kept.Clock clock) = Cell.clock clock.value.clock
+cell_of (Kept.Joins joins) = Cell.joins joins.value

@@ -8,11 +8,11 @@ use crate::object_room::ObjectRoom;
 use std::marker::Model;
 use std::snapshot::Snapshot;
 use um_base::Image;
-use um_tables::{Bytes, DomainCell, Heap, Scheduler};
+use um_tables::{Bytes, Clock, DomainCell, Heap, Joins, Scheduler};
 use um_words::Content;
 
-/// What a cell keeps: an object's, a domain's, the memory's, the heap's or the scheduler's contents. The cell's word counts its steps; the
-/// counts inside an object's and a domain's contents aren't used.
+/// What a cell keeps: the contents of an object, a domain, the memory, the heap, the scheduler, the clock or the joins. The cell's word counts
+/// its steps; the counts inside an object's and a domain's contents aren't used.
 #[derive(Drop)]
 pub enum Kept {
     Object(ObjectRoom),
@@ -20,7 +20,27 @@ pub enum Kept {
     Memory(Box<Bytes>),
     Heap(Box<Heap>),
     Scheduler(Box<Scheduler>),
+    Clock(Box<Clock>),
+    Joins(Box<Joins>),
 }
+
+/// What the word of a cell counts beside its steps.
+#[derive(Clone, Copy)]
+pub struct Counts {
+    /// Ready threads, at most 32.
+    pub ready: u8,
+    /// Threads that processors run.
+    pub running: u8,
+    /// Marks that are owed, below 2^19.
+    pub owed: u32,
+}
+
+/// What the words of all cells count but that of the scheduler.
+const NONE: Counts = Counts {
+    ready: 0,
+    running: 0,
+    owed: 0,
+};
 
 /// What a cell of an image's board keeps. The image is ghost data.
 #[derive(Drop)]
@@ -56,13 +76,18 @@ impl Contents {
         }
     }
 
-    /// The numbers of ready and of running threads that the cell's word counts: 0 for all cells but the scheduler's.
-    pub fn counts(&self) -> (u8, u8)
-        ensures { (number : ℕ) → cell_word self.now.cell number ≡ quiet_word result.0 result.1 number }
+    /// The numbers of ready threads, of running threads and of owed marks that the cell's word counts: 0 for all cells but the scheduler's.
+    pub fn counts(&self) -> Counts
+        ensures { (number : ℕ) → cell_word self.now.cell number ≡ quiet_word result.ready result.running result.owed number }
     {
         match &self.kept {
-            Kept::Scheduler(scheduler) => (scheduler.ready(), scheduler.running()),
-            Kept::Object(_) | Kept::Parts(_) | Kept::Memory(_) | Kept::Heap(_) => (0, 0),
+            Kept::Scheduler(scheduler) => Counts {
+                ready: scheduler.ready(),
+                running: scheduler.running(),
+                owed: scheduler.owed(),
+            },
+            Kept::Object(_) | Kept::Parts(_) | Kept::Memory(_) | Kept::Heap(_) => NONE,
+            Kept::Clock(_) | Kept::Joins(_) => NONE,
         }
     }
 

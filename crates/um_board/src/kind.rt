@@ -5,7 +5,7 @@ ghost use Rattle.um_board.specs.{Kept.{cell_of}, Turned.{kind_of}};
 
 use crate::contents::Kept;
 use crate::object_room::ObjectRoom;
-use um_tables::{Bytes, DomainCell, Heap, Scheduler};
+use um_tables::{Bytes, Clock, DomainCell, Heap, Joins, Scheduler};
 
 /// What cells of one kind keep.
 pub trait Kind {
@@ -126,5 +126,45 @@ impl Kind for Box<Scheduler> {
 
     fn into_kept(self) -> Kept {
         Kept::Scheduler(self)
+    }
+}
+
+impl Kind for Box<Clock> {
+    ghost use Rattle.um_words.specs.declared.kind.CellKind.{CellKind};
+    ghost use Rattle.um_fine.specs.Cells.{Cell};
+
+    ghost kind = { CellKind.Clock };
+
+    ghost cell = { λ o. Cell.clock o.value.clock };
+
+    fn out_of(kept: Kept) -> Self {
+        match kept {
+            Kept::Clock(own) => own,
+            _ => unreachable!(),
+        }
+    }
+
+    fn into_kept(self) -> Kept {
+        Kept::Clock(self)
+    }
+}
+
+impl Kind for Box<Joins> {
+    ghost use Rattle.um_words.specs.declared.kind.CellKind.{CellKind};
+    ghost use Rattle.um_fine.specs.Cells.{Cell};
+
+    ghost kind = { CellKind.Join };
+
+    ghost cell = { λ o. Cell.joins o.value };
+
+    fn out_of(kept: Kept) -> Self {
+        match kept {
+            Kept::Joins(own) => own,
+            _ => unreachable!(),
+        }
+    }
+
+    fn into_kept(self) -> Kept {
+        Kept::Joins(self)
     }
 }

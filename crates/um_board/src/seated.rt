@@ -19,7 +19,7 @@ ghost use Rattle.um_board.specs.{
   Saw.{Hinders, SawAt},
 };
 
-use crate::contents::Contents;
+use crate::contents::{Contents, Counts};
 use crate::fine::{AsMade, Fine};
 use crate::kind::Kind;
 use crate::next_step::NextStep;
@@ -59,16 +59,17 @@ pub struct Turn<K> {
     pub before: Snapshot<K>,
 }
 
-/// How many steps a cell has taken, if its word counts this many threads and the cell can take one more step.
-fn steps_of(word: u64, ready: u8, running: u8) -> Option<u32>
-    ensures { MatchOption result ((n : ℕ) → n < 268435455 → cell_of word ≢ quiet_word ready running n)
-        (λ n. (cell_of word ≡ quiet_word ready running n) × (n < 268435455)) }
+/// How many steps a cell has taken, if its word counts these and the cell can take one more step.
+fn steps_of(word: u64, counts: &Counts) -> Option<u32>
+    ensures { let c = counts.now in
+        MatchOption result ((n : ℕ) → n < 268435455 → cell_of word ≢ quiet_word c.ready c.running c.owed n)
+        (λ n. (cell_of word ≡ quiet_word c.ready c.running c.owed n) × (n < 268435455)) }
 {
     let word = CellWord::read(word);
     if word.turn
-        || word.ready != ready
-        || word.running != running
-        || word.owed != 0
+        || word.ready != counts.ready
+        || word.running != counts.running
+        || word.owed != counts.owed
         || word.number >= LAST
     {
         return None;
@@ -110,7 +111,7 @@ impl<'a> Seated<'a> {
     /// Reads the word of a site.
     pub(crate) fn look(&mut self, image: &Image, site: u16) -> u64
         requires image { IsAt image.now self.old }
-        requires site { site < 307 }
+        requires site { site < 309 }
         ensures image { IsAt image.now self.new }
         ensures unnoted { HasMadeNone self.old self.new }
         ensures got { self.new.seat.token.me.0.got ≡ (site, result) ∷ self.old.seat.token.me.0.got }
@@ -138,7 +139,7 @@ impl<'a> Seated<'a> {
     /// Reads the word of a site, and returns it if the log has room for one more step.
     pub(crate) fn look_to_step(&mut self, image: &Image, site: u16) -> Option<u64>
         requires image { IsAt image.now self.old }
-        requires site { site < 307 }
+        requires site { site < 309 }
         ensures image { IsAt image.now self.new }
         ensures unnoted { HasMadeNone self.old self.new }
         ensures seen { MatchOption result
@@ -201,7 +202,7 @@ impl<'a> Seated<'a> {
     /// It looks first, so that seats that wait for a turn only read the word and don't disturb the seat that is to write it.
     pub(crate) fn turn<K: Kind>(&mut self, image: &Image, site: u16) -> Option<(Turn<K>, K)>
         requires image { IsAt image.now self.old }
-        requires site { (168 ≤ site) × (site < 307) × (cell_kind_at site ≡ K.kind) }
+        requires site { (168 ≤ site) × (site < 309) × (cell_kind_at site ≡ K.kind) }
         ensures unnoted { HasMadeNone self.old self.new }
         ensures turn { AsksTurn K.cell image.now self.old site result self.new }
     {
@@ -214,7 +215,7 @@ impl<'a> Seated<'a> {
     /// The same, without looking first.
     pub(crate) fn turn_at_once<K: Kind>(&mut self, image: &Image, site: u16) -> Option<(Turn<K>, K)>
         requires image { IsAt image.now self.old }
-        requires site { (168 ≤ site) × (site < 307) × (cell_kind_at site ≡ K.kind) }
+        requires site { (168 ≤ site) × (site < 309) × (cell_kind_at site ≡ K.kind) }
         ensures unnoted { HasMadeNone self.old self.new }
         ensures turn { AsksTurn K.cell image.now self.old site result self.new }
     {
@@ -226,8 +227,8 @@ impl<'a> Seated<'a> {
             self.cells.put_quiet(self.board, &mut self.seat, held);
             return None;
         }
-        let (ready, running) = held.contents.counts();
-        match steps_of(held.word, ready, running) {
+        let counts = held.contents.counts();
+        match steps_of(held.word, &counts) {
             None => {
                 self.cells.put_quiet(self.board, &mut self.seat, held);
                 None
@@ -267,7 +268,7 @@ impl<'a> Seated<'a> {
     /// Makes a step of a cell whose turn it has: leaves these contents, gives the turn back, and notes the step. Only the proof uses
     /// `which` and `about`, to pick the step that is made.
     #[inline(always)]
-    pub(crate) fn leave<D: Fine, K: Kind, A>(
+    pub(crate) fn leave_cell<D: Fine, K: Kind, A>(
         &mut self,
         here: &Here,
         site: u16,
@@ -294,12 +295,16 @@ impl<'a> Seated<'a> {
         let _ = which;
         let _ = about;
         let contents = Contents::new(here.image, cell.into_kept());
-        let (ready, running) = contents.counts();
+        let Counts {
+            ready,
+            running,
+            owed,
+        } = contents.counts();
         let next = CellWord {
             turn: false,
             ready,
             running,
-            owed: 0,
+            owed,
             number: turn.number + 1,
         }
         .pack();

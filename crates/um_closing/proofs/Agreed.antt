@@ -179,6 +179,8 @@ module _ (f : Fine) (m : State) (rel : Rel f m) (placed : IsPlaced m) (idle : Ar
         objects = objects-agree;
         pairs = λ t x few. ap (λ (flags : List Bool). slice_index_or flags t false) (pairs-same x few);
         waiters = all-waiters;
+        joins = rel.joins.waiters;
+        futexes = rel.memory.futexes;
         domains = domain-same;
         pools = rel.heap.pools;
         memory = rel.memory.memory;

@@ -70,8 +70,31 @@ impl Core {
         })
     }
 
-    /// Has a processor make its next step, if it can make one now. Returns whether it did. If so, that step continues the fine run so far;
-    /// if not, no step of that processor may follow. It takes no memory.
+    /// Has a processor without a thread, where none is ready, tend to time: it takes the first mark that is due. Where none is due and no
+    /// thread runs, it lets time go on.
+    fn tend(&mut self, image: &Image, cpu: u8) -> bool
+        requires idle { (processor_at self.old cpu).todo ≡ [] }
+        requires given { IsGiven image.now }
+        requires rodata { self.old.sites.rodata ≡ rodata_of image.now }
+        requires cpu { cpu < length self.old.processors }
+        ensures rodata { self.new.sites.rodata ≡ rodata_of image.now }
+        ensures steps { result ≡ true → Steps image.now cpu self.old self.new }
+        ensures same { result ≡ false → self.new ≡ self.old }
+        ensures tends { result ≡ true → Tends self.old self.new }
+        ensures waits { result ≡ false → TendsNot image.now self.old cpu }
+    {
+        let processor = &mut self.processors[cpu as usize];
+        if is_made(processor.give(image, cpu, &mut self.sites)) {
+            return true;
+        }
+        if self.sites.scheduler_cell().running() > 0 {
+            return false;
+        }
+        is_made(processor.tick(image, cpu, &mut self.sites))
+    }
+
+    /// Has a processor make its next step, if it can make one now that is chosen. Returns whether it did. If so, that step continues the fine
+    /// run so far; if not, no step of that processor is next. It takes no memory.
     #[inline(always)]
     pub fn step(&mut self, image: &Image, cpu: u8) -> bool
         requires given { IsGiven image.now }
@@ -88,8 +111,13 @@ impl Core {
     {
         longest_fine_run();
         let processor = &mut self.processors[cpu as usize];
-        let turn = processor.step(image, cpu, &mut self.sites);
-        is_made(turn)
+        if is_made(processor.step(image, cpu, &mut self.sites)) {
+            return true;
+        }
+        if !processor.is_idle() {
+            return false;
+        }
+        self.tend(image, cpu)
     }
 
     /// Has the first processor that can make a step now make it, from this one on, going round. Returns whether one did.

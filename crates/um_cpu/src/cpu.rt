@@ -43,9 +43,33 @@ impl<'a> Cpu<'a> {
         }
     }
 
+    /// Tends to time, where it has no thread, none was ready, and marks were owed: takes a mark that is due. Where none is, and no thread ran,
+    /// it lets time go on. Returns whether it waits: then no mark was due, and a thread ran or no deadline was to come.
+    fn tend(&mut self, image: &Image, none_ran: bool) -> bool
+        requires { CanPlay image.now self.old }
+        ensures number { self.new.number ≡ self.old.number }
+        ensures place { IsAt image.now self.new.place }
+        ensures keeps { KeepsPlace self.old.place.seat self.new.place.seat }
+        ensures goes { GoesOnTo image.now self.old self.new }
+        ensures stands { IsPlaying image.now self.new }
+    {
+        match self.processor.give(image, self.number, &mut self.place) {
+            Asked::Busy => {}
+            Asked::Made | Asked::Changed | Asked::Stuck => return false,
+        }
+        if !none_ran {
+            return true;
+        }
+        match self.processor.tick(image, self.number, &mut self.place) {
+            Asked::Busy => true,
+            Asked::Made | Asked::Changed | Asked::Stuck => false,
+        }
+    }
+
     /// Makes at most one step, the next one, for which it asks once. If the step wasn't made, another seat had the turn of its site, or
     /// another word had come to stand there, or the site refused the step and the processor waits; the seat has read the word that shows
-    /// this. A processor without a thread looks first whether one is ready, and asks for nothing if none is.
+    /// this. A processor without a thread looks first whether one is ready. If none is, and marks are owed, it tends to time; else it asks for
+    /// nothing.
     pub fn step(&mut self, image: &Image) -> Turn
         requires { CanPlay image.now self.old }
         ensures number { self.new.number ≡ self.old.number }
@@ -65,6 +89,9 @@ impl<'a> Cpu<'a> {
         let says = CellWord::read(word);
         if says.ready > 0 {
             self.ask(image);
+            return Turn::Did;
+        }
+        if says.owed > 0 && !self.tend(image, says.running == 0) {
             return Turn::Did;
         }
         if says.running == 0 && says.owed == 0 {

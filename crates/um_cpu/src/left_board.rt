@@ -14,13 +14,13 @@ use um_board::{Contents, Kept};
 use um_closing::ReadSites;
 use um_machine::Life;
 use um_site::Closed;
-use um_tables::{Bytes, Heap, ObjectCell, Scheduler};
+use um_tables::{Bytes, Heap, Joins, ObjectCell, Scheduler};
 use um_words::{RowWord, ThreadWord};
 
 /// The site of the first thread.
 const FIRST_THREAD: u16 = 128;
 
-/// The slots of the cells of the first domain, of the memory, the heap and the scheduler.
+/// The slots of the cells of the first domain, of the memory, the heap, the scheduler and the joins.
 const FIRST_DOMAIN: u16 = 128;
 
 const MEMORY: u16 = 136;
@@ -29,6 +29,8 @@ const HEAP: u16 = 137;
 
 const SCHEDULER: u16 = 138;
 
+const JOINS: u16 = 140;
+
 /// The word of a thread index where nothing was started.
 const UNBORN: ThreadWord = ThreadWord {
     life: Life::Unborn,
@@ -36,6 +38,9 @@ const UNBORN: ThreadWord = ThreadWord {
     held: false,
     mode: Mode::User,
     domain: 0,
+    aborted: false,
+    suspended: false,
+    note: None,
     number: 0,
 };
 
@@ -72,6 +77,17 @@ fn scheduler_in(kept: &Kept) -> &Scheduler
     }
 }
 
+/// The contents of the joins' cell, which are kept here.
+fn joins_in(kept: &Kept) -> &Joins
+    requires { kind_of (cell_of kept.now) ≡ CellKind.Join }
+    ensures { cell_of kept.now ≡ Cell.joins result.now }
+{
+    match kept {
+        Kept::Joins(joins) => joins,
+        _ => unreachable!(),
+    }
+}
+
 /// A closed board on which processors have played, read where it lies.
 #[derive(Drop)]
 pub struct LeftBoard<'a> {
@@ -90,7 +106,7 @@ impl<'a> LeftBoard<'a> {
 
     /// What a cell keeps, if its slot is filled.
     fn kept(&self, slot: u16) -> Option<&Kept>
-        requires { slot < 139 }
+        requires { slot < 141 }
         ensures { let there = in_slot (get_elem? (slots_items self.now.closed.now.table.slots) slot) in
             MatchOption result (there ≡ Cell.parts None) (λ kept. there ≡ cell_of kept.now) }
     {
@@ -151,6 +167,13 @@ impl<'a> ReadSites for LeftBoard<'a> {
     fn read_scheduler(&self) -> &Scheduler {
         match self.kept(SCHEDULER) {
             Some(kept) => scheduler_in(kept),
+            None => unreachable!(),
+        }
+    }
+
+    fn read_joins(&self) -> &Joins {
+        match self.kept(JOINS) {
+            Some(kept) => joins_in(kept),
             None => unreachable!(),
         }
     }

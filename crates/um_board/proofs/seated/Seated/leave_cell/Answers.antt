@@ -11,7 +11,7 @@ use Rattle.um_board.specs.Noted.{made_of}
 use Rattle.um_board.proofs.CellSteps.{cell-lawful, cell-left, cell-reads-back, follows, put-number}
 use Rattle.um_board.proofs.Keeping.{logged-is, put-turn}
 use Rattle.um_board.proofs.NextRuns.{next-goes}
-use Rattle.um_board.proofs.seated.Seated.leave.Goals as goal
+use Rattle.um_board.proofs.seated.Seated.leave_cell.Goals as goal
 
 -- what contents count, the cell counts that they keep
 counts-of : (c : Known) (image : Image) (kept cell : Cell) (ready running : ℕ) → c ≡ known image kept → kept ≡ cell → ((n : ℕ) → cell_word c.cell n ≡ quiet_word ready running n)
