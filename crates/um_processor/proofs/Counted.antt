@@ -81,6 +81,8 @@ none-of Phase.Look r = none-errand r.after r
 none-of Phase.TellCut r = none-errand r.after r
 none-of Phase.Rouse r = none-errand r.after r
 none-of Phase.AddRoused r = none-errand r.after r
+none-of Phase.Handle r = refl
+none-of Phase.Paid r = refl
 none-of phase r = none-own phase r
 
 none-wakes : (woken : List (ThreadIx × Told)) (todo : Todos) → cleanings todo ≡ 0 → cleanings (wakes woken todo) ≡ 0

@@ -3,8 +3,11 @@ pub mod Accesses
 pub mod Begun
 pub mod Cleaned
 pub mod Counted
+pub mod Errands
 pub mod Expanded
 pub mod Lifted
+pub mod Looked
+pub mod Noted
 pub mod Phased
 pub mod Released
 pub mod Requests
@@ -13,6 +16,8 @@ pub mod Runs
 pub mod Shown
 pub mod Spared
 pub mod Standings
+pub mod Stopped
 pub mod Tended
+pub mod Timed
 pub mod Visited
 pub mod Wholes

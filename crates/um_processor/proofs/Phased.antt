@@ -121,6 +121,8 @@ own-is Phase.Look r h = absurd (false≢true h)
 own-is Phase.TellCut r h = absurd (false≢true h)
 own-is Phase.Rouse r h = absurd (false≢true h)
 own-is Phase.AddRoused r h = absurd (false≢true h)
+own-is Phase.Handle r h = absurd (false≢true h)
+own-is Phase.Paid r h = absurd (false≢true h)
 own-is phase r h = refl
 
 -- a first phase is such a phase
@@ -170,6 +172,8 @@ own-list Phase.Look r = refl
 own-list Phase.TellCut r = refl
 own-list Phase.Rouse r = refl
 own-list Phase.AddRoused r = refl
+own-list Phase.Handle r = refl
+own-list Phase.Paid r = refl
 own-list phase r = refl
 
 -- after a visit the next one comes, or the step

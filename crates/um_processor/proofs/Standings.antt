@@ -74,6 +74,8 @@ front-of Phase.Look r h = record { first = _; rest = _; plain = refl; is = refl 
 front-of Phase.TellCut r h = record { first = _; rest = _; plain = refl; is = refl }
 front-of Phase.Rouse r h = record { first = _; rest = _; plain = refl; is = refl }
 front-of Phase.AddRoused r h = record { first = _; rest = _; plain = refl; is = refl }
+front-of Phase.Handle r h = record { first = _; rest = _; plain = refl; is = refl }
+front-of Phase.Paid r h = record { first = _; rest = _; plain = refl; is = refl }
 front-of phase r h = front-own phase r h
 
 front-wakes : (woken : List (ThreadIx × Told)) (todo : Todos) → Front todo → Front (wakes woken todo)

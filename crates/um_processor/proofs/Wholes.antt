@@ -16,7 +16,6 @@ use Rattle.um_fine.specs.Places.{Todo, Todos, clean_pairs, cleanings}
 use Rattle.um_fine.specs.Processor.{Processor}
 use Rattle.um_fine.specs.Scheduler.{Scheduler}
 use Rattle.um_fine.specs.Steps.{Exchange, FineStep}
-use Rattle.um_fine.specs.Context.{Context}
 use Rattle.um_processor.specs.declared.phase.Phase.{Phase}
 use Rattle.um_base.specs.Places.{addr_of}
 use Rattle.um_tables.specs.declared.heap_act.HeapAct.{HeapAct}
@@ -28,7 +27,7 @@ use Rattle.um_processor.specs.Cleanings.{all_clean, block_if}
 use Rattle.um_tables.specs.HeapActs.{heap_made}
 use Rattle.um_tables.specs.ObjectCells.{cleared_made}
 use Rattle.um_processor.specs.Phases.{is_idle}
-use Rattle.um_processor.specs.Processors.{Goes, context_in, errands_of, in_phase, processor_of, site_next}
+use Rattle.um_processor.specs.Processors.{Goes, errands_of, in_phase, processor_of, site_next}
 use Rattle.um_tables.specs.Asked.{AsksFor}
 use Rattle.um_processor.specs.Requests.{Leads}
 use Rattle.um_tables.specs.RowActs.{row_made}
@@ -46,11 +45,6 @@ first-removed (x ∷ xs) d h = refl
 pub next-told : (woken : List (ThreadIx × Told)) (told : ℕ) (w : ThreadIx × Told) → told < length woken → w ≡ get_or woken told w
     → drop told woken ≡ w ∷ drop (told + 1) woken
 next-told woken told w h e = drop-cons woken told w h ∙ (λ i. sym e i ∷ drop (sym (add-one told) i) woken)
-
--- a processor that has a thread runs it
-running-context : (phase : Phase) (c : Context) → is_idle phase ≡ false → context_in phase c ≡ c
-running-context Phase.Idle c h = absurd (cc)
-running-context phase c h = refl
 
 charged : (phase : Phase) (r : Running) (cost : Option Cost) → in_phase phase (record r { charge = cost }) ≡ record (in_phase phase r) { charge = cost }
 charged Phase.Idle r cost = refl
@@ -105,9 +99,6 @@ module _ (image : Image) (cpu : ℕ) (r : Running) (runs : is_idle r.phase ≡ f
       (waked image cpu (processor_of r) (behind [] rest) (front-before [] rest (errands_of r.phase r) front) n s w.0 w.1)
 
   -- the cleaning
-  me : (processor_of r).context.thread ≡ r.context.value.thread
-  me = ap (λ (k : Context). k.thread) (running-context r.phase r.context.value runs)
-
   -- as many objects are to be cleaned as stand in the queue
   pub cleanings-stood : (cleans : Todos) (ends : List ℕ) (woken : List (ThreadIx × Told)) → cleanings (standing cleans ends woken (processor_of r)).todo ≡ cleanings cleans
   cleanings-stood cleans ends woken =
@@ -119,14 +110,14 @@ module _ (image : Image) (cpu : ℕ) (r : Running) (runs : is_idle r.phase ≡ f
 
   pub pair-goes : (cleans new cs : Todos) (ends : List ℕ) (woken : List (ThreadIx × Told)) (who x t a : ℕ) (w : RowWord) (b : Bool)
       → cleans ≡ Todo.clean_pair who x ∷ cs → all_clean (clean_pairs who (x + 1) cs) ≡ true
-      → t ≡ r.context.value.thread → a ≡ addr_of image x
+      → t ≡ (processor_of r).context.thread → a ≡ addr_of image x
       → let e = row_made image cpu x w (RowAct.Sweep (to_thread t) (to_thread who) (to_addr a)) in
       b ≡ begins_cleaning e → new ≡ clean_pairs who (x + 1) cs ++ block_if image x b
       → (z : Running) → z ≡ record r { actor = if is_visit e.act then r.actor else Some t }
       → Goes cpu image (standing cleans ends woken (processor_of r)) e (standing new ends woken (processor_of z))
   pair-goes cleans new cs ends woken who x t a w b ec clean et ea eb en z ez =
       let made : ℕ → ℕ → FineStep = λ i j. row_made image cpu x w (RowAct.Sweep (to_thread i) (to_thread who) (to_addr j)) in
-      let thread : (processor_of r).context.thread ≡ t = me ∙ sym et in
+      let thread : (processor_of r).context.thread ≡ t = sym et in
       let actor : ℕ → ℕ → Option ℕ = λ i j. if is_visit (made i j).act then r.actor else Some i in
       let left : standing new ends woken (processor_of z)
       ≡ record (processor_of r) { todo = (clean_pairs who (x + 1) cs ++ block_if image x b) ++ behind ends woken; actor = actor (processor_of r).context.thread (addr_of image x) } =
@@ -139,11 +130,11 @@ module _ (image : Image) (cpu : ℕ) (r : Running) (runs : is_idle r.phase ≡ f
       (eb ∙ (λ i. begins_cleaning (made (sym thread i) (ea i)))))
 
   pub pair-asks : (cleans cs : Todos) (ends : List ℕ) (woken : List (ThreadIx × Told)) (who x t a : ℕ) (w : RowWord)
-      → cleans ≡ Todo.clean_pair who x ∷ cs → t ≡ r.context.value.thread → a ≡ addr_of image x
+      → cleans ≡ Todo.clean_pair who x ∷ cs → t ≡ (processor_of r).context.thread → a ≡ addr_of image x
       → AsksFor cpu image (standing cleans ends woken (processor_of r)) (row_made image cpu x w (RowAct.Sweep (to_thread t) (to_thread who) (to_addr a)))
   pair-asks cleans cs ends woken who x t a w ec et ea =
       let made : ℕ → ℕ → FineStep = λ i j. row_made image cpu x w (RowAct.Sweep (to_thread i) (to_thread who) (to_addr j)) in
-      let thread : (processor_of r).context.thread ≡ t = me ∙ sym et in
+      let thread : (processor_of r).context.thread ≡ t = sym et in
       subst (λ (q : Processor × FineStep). AsksFor cpu image q.0 q.1)
       (λ i. (sym (stood cleans (Todo.clean_pair who x ∷ cs) ends woken ec) i, made (thread i) (sym ea i)))
       (sweep-asks image cpu (processor_of r) (behind ends woken) (front-before ends woken (errands_of r.phase r) front) cs who x w)
@@ -167,11 +158,11 @@ module _ (image : Image) (cpu : ℕ) (r : Running) (runs : is_idle r.phase ≡ f
       (vacated image cpu (processor_of r) (behind ends woken) (front-before ends woken (errands_of r.phase r) front) cs x w)
 
   pub recycle-goes : (cleans new cs : Todos) (ends : List ℕ) (woken : List (ThreadIx × Told)) (x n t a : ℕ) (h : Heap) (cost : Option Cost)
-      → cleans ≡ Todo.recycle x ∷ cs → new ≡ cs → t ≡ r.context.value.thread → a ≡ addr_of image x → cost ≡ r.charge
+      → cleans ≡ Todo.recycle x ∷ cs → new ≡ cs → t ≡ (processor_of r).context.thread → a ≡ addr_of image x → cost ≡ r.charge
       → (z : Running) → z ≡ record r { actor = Some t }
       → Goes cpu image (standing cleans ends woken (processor_of r)) (heap_made image cpu n h (HeapAct.Recycle (to_thread t) (to_addr a)) cost) (standing new ends woken (processor_of z))
   recycle-goes cleans new cs ends woken x n t a h cost ec en et ea eh z ez =
-      let thread : (processor_of r).context.thread ≡ t = me ∙ sym et in
+      let thread : (processor_of r).context.thread ≡ t = sym et in
       let left : standing new ends woken (processor_of z) ≡ record (processor_of r) { todo = cs ++ behind ends woken; actor = Some t } =
       ap (λ (k : Running). standing new ends woken (processor_of k)) ez
       ∙ ap (λ (q : Processor). standing new ends woken q) (acted-in r.phase r (Some t))

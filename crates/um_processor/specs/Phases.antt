@@ -17,6 +17,13 @@ abbrev pub is_idle : Phase → Bool
 is_idle Phase.Idle = true
 is_idle phase = false
 
+-- whether it has no thread; it may have a mark in its hand
+abbrev pub lacks_thread : Phase → Bool
+lacks_thread Phase.Idle = true
+lacks_thread Phase.Handle = true
+lacks_thread Phase.Paid = true
+lacks_thread phase = false
+
 -- whether its step leaves nothing to be done before the next one: no claim ends, no row comes to cleaning, nobody is woken
 abbrev pub is_plain_phase : Phase → Bool
 is_plain_phase Phase.Idle = false
@@ -31,15 +38,17 @@ is_plain_phase Phase.Show = false
 is_plain_phase Phase.Handle = false
 is_plain_phase phase = true
 
--- whether it looks for another thread, before its own thread's next step or at the end of its turn
+-- whether it looks for another thread, before its own thread's next step or at the end of its turn, or has a mark in its hand
 abbrev pub is_errand : Phase → Bool
 is_errand Phase.Look = true
 is_errand Phase.TellCut = true
 is_errand Phase.Rouse = true
 is_errand Phase.AddRoused = true
+is_errand Phase.Handle = true
+is_errand Phase.Paid = true
 is_errand phase = false
 
--- whether a phase is one of the thread's own next step: there is a thread, and no row is visited, and no other thread is looked for
+-- whether a phase is one of the thread's own next step: there is a thread, and no row is visited, and it is no errand
 abbrev pub is_own : Phase → Bool
 is_own Phase.Idle = false
 is_own Phase.Pass = false
@@ -55,6 +64,16 @@ abbrev pub is_over : Phase → Bool
 is_over Phase.Open = true
 is_over Phase.Idle = true
 is_over phase = false
+
+-- whether an errand may come before a phase: there is a thread, and it is no errand
+abbrev pub is_going : Phase → Bool
+is_going Phase.Idle = false
+is_going phase = not (is_errand phase)
+
+-- the phase that stays behind such an errand
+abbrev pub kept_phase : Phase → Phase
+kept_phase Phase.Open = Phase.Park
+kept_phase phase = phase
 
 -- a phase that comes behind an errand, or that in which the thread is put back
 abbrev pub behind_phase : Phase → Phase

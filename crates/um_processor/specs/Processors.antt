@@ -14,7 +14,7 @@ use Rattle.um_fine.specs.Sites.{is_site}
 use Rattle.um_fine.specs.Steps.{FineStep, Site}
 use Rattle.um_tables.specs.Asked.{AsksFor}
 use Rattle.um_tables.specs.Parked.{some_if}
-use Rattle.um_processor.specs.Phases.{cell_of, domain_named, first_of, own_phase, passed_to, queue_of, released, settled_mark, settles_at, showing}
+use Rattle.um_processor.specs.Phases.{cell_of, domain_named, first_of, lacks_thread, own_phase, passed_to, queue_of, released, settled_mark, settles_at, showing}
 use Rattle.um_tables.specs.Looks.{is_waited_at}
 use Rattle.um_words.specs.declared.fine.FineAct.{FineAct}
 use Rattle.um_words.specs.declared.fine.Mark.{Mark}
@@ -125,8 +125,6 @@ todo_in Phase.Show steps r = showing steps []
 todo_in Phase.Done steps r = Todo.done ∷ []
 todo_in Phase.Sleep steps r = Todo.sleep ∷ Todo.reread_asleep ∷ Todo.done ∷ []
 todo_in Phase.RereadAsleep steps r = Todo.reread_asleep ∷ Todo.done ∷ []
-todo_in Phase.Handle steps r = Todo.handle r.deadline r.mark ∷ Todo.paid ∷ []
-todo_in Phase.Paid steps r = Todo.paid ∷ []
 todo_in phase steps r = Todo.park ∷ []
 
 -- What is left of the thread's next step: its pending steps, whether rows were visited before the next one, the row to visit, the first phase
@@ -164,18 +162,19 @@ list_behind phase k = list_of phase k
 abbrev pub behind_errand : Phase → Running → Todos
 behind_errand phase r = list_behind phase (left_of r)
 
--- the same with an errand before it
+-- the same with an errand before it; behind a mark in its hand comes nothing
 abbrev pub errands_of : Phase → Running → Todos
 errands_of Phase.Look r = Todo.look r.sought r.place r.before ∷ behind_errand r.after r
 errands_of Phase.TellCut r = Todo.tell_cut r.sought ∷ behind_errand r.after r
 errands_of Phase.Rouse r = Todo.rouse r.sought ∷ behind_errand r.after r
 errands_of Phase.AddRoused r = Todo.add r.room.value ∷ behind_errand r.after r
+errands_of Phase.Handle r = Todo.handle r.deadline r.mark ∷ Todo.paid ∷ []
+errands_of Phase.Paid r = Todo.paid ∷ []
 errands_of phase r = todo_of phase r
 
--- the own part of a processor that has no thread
+-- a processor that has no thread has an own part of none
 abbrev pub context_in : Phase → Context → Context
-context_in Phase.Idle c = no_context
-context_in phase c = c
+context_in phase c = if lacks_thread phase then no_context else c
 
 -- the processor in a phase
 abbrev pub in_phase : Phase → Running → Processor

@@ -28,7 +28,7 @@ mod works;
 ghost use Rattle.std.specs.Prelude.{◌≡◌, ◌<◌, Some, IfOk, if◌then◌else◌};
 ghost use Rattle.um_base.specs.declared.limits.TheConstants.{THREADS};
 ghost use Rattle.um_fine.specs.Processor.{idle};
-ghost use Rattle.um_processor.specs.{Phases.{is_idle}, Processors.{processor_of}};
+ghost use Rattle.um_processor.specs.{Phases.{is_idle, lacks_thread}, Processors.{processor_of}};
 
 use crate::phase::Phase;
 pub use calls::Wanted;
@@ -189,6 +189,28 @@ impl Running {
         ensures small { result.0 < THREADS }
     {
         ThreadIx(self.context.thread())
+    }
+
+    /// Whether it has no thread. It may have a mark in its hand then.
+    fn lacks_thread(&self) -> bool
+        ensures { result ≡ lacks_thread self.now.phase }
+    {
+        match self.phase {
+            Phase::Idle | Phase::Handle | Phase::Paid => true,
+            _ => false,
+        }
+    }
+
+    /// The thread by which it cleans objects: its own, or the first one where it has none.
+    #[tactic(auto, using(crate::proofs::Errands::own_kept, crate::proofs::Errands::none_own))]
+    pub fn cleaner(&self) -> ThreadIx
+        ensures { result.0 ≡ (processor_of self.now).context.thread }
+    {
+        if self.lacks_thread() {
+            ThreadIx(0)
+        } else {
+            ThreadIx(self.context.thread())
+        }
     }
 
     /// It made an event by this thread, unless it only looked.

@@ -29,7 +29,7 @@ impl Processor {
         if self.cleans.len() >= MOST {
             return Turn::Stuck;
         }
-        let thread = self.running.thread();
+        let thread = self.running.cleaner();
         let act = RowAct::Sweep {
             thread,
             who: ThreadIx(who),
@@ -79,7 +79,7 @@ impl Processor {
         ensures turn { HasStepped S.Sites result here.now sites.old sites.new
             (whole self.old) self.old self.new }
     {
-        let thread = self.running.thread();
+        let thread = self.running.cleaner();
         let act = HeapAct::Recycle {
             thread,
             addr: Addr(addr_of(here.image, row as usize)),

@@ -1,8 +1,8 @@
 //! Errands: looks for a thread that was aborted or that sleeps, and how it gets ready.
 
-ghost use Rattle.std.specs.Prelude.{◌≡◌, ◌∷◌};
+ghost use Rattle.std.specs.Prelude.{◌≡◌, true};
 ghost use Rattle.um_fine.specs.{Follows.{filled_up, looks_for}, Places.{Todo}};
-ghost use Rattle.um_processor.specs.{Events.{with_errand}, Phases.{behind_phase, is_over}, Processors.{behind_errand, in_phase, processor_of, todo_of, with_todo}, Turns.{CanTurn, HasRun}};
+ghost use Rattle.um_processor.specs.{Events.{with_errand}, Phases.{behind_phase, is_going, is_over, kept_phase}, Processors.{behind_errand, in_phase, processor_of, with_todo}, Turns.{CanTurn, HasRun}};
 ghost use Rattle.um_processor.specs.declared.phase.Phase.TheVariants as Phase;
 
 use crate::phase::{Phase, Turn};
@@ -28,19 +28,32 @@ fn behind_phase(phase: Phase) -> Phase
 {
     match phase {
         Phase::Look | Phase::TellCut | Phase::Rouse | Phase::AddRoused => Phase::Park,
+        Phase::Handle | Phase::Paid => Phase::Park,
+        _ => phase,
+    }
+}
+
+/// The phase that stays behind an errand before it.
+fn kept_phase(phase: Phase) -> Phase
+    ensures { result ≡ kept_phase phase }
+{
+    match phase {
+        Phase::Open => Phase::Park,
         _ => phase,
     }
 }
 
 impl Running {
     /// Looks for a thread next, in the cell that its word notes, or among those who sleep. What was next comes behind that.
+    #[tactic(auto, using(crate::proofs::Errands::look_stands, crate::proofs::Errands::rouse_stands))]
     pub fn looks_for(&mut self, image: &Image, who: u8, word: &ThreadWord)
+        requires goes { is_going self.old.phase ≡ true }
         ensures { processor_of self.new ≡ record (processor_of self.old) {
-          todo = looks_for image.now who word.now (todo_of self.old.phase self.old);
+          todo = looks_for image.now who word.now (processor_of self.old).todo;
         } }
     {
         self.sought = who;
-        self.after = self.phase;
+        self.after = kept_phase(self.phase);
         match word.note {
             Some(site) => {
                 self.place = site;
@@ -52,13 +65,13 @@ impl Running {
     }
 
     /// Looks for a thread next among those who sleep.
+    #[tactic(auto, using(crate::proofs::Errands::rouse_stands))]
     pub fn looks_for_sleeper(&mut self, who: u8)
-        ensures { processor_of self.new ≡ record (processor_of self.old) {
-          todo = Todo.rouse who ∷ todo_of self.old.phase self.old;
-        } }
+        requires goes { is_going self.old.phase ≡ true }
+        ensures { processor_of self.new ≡ with_errand (Todo.rouse who) (processor_of self.old) }
     {
         self.sought = who;
-        self.after = self.phase;
+        self.after = kept_phase(self.phase);
         self.phase = Phase::Rouse;
     }
 

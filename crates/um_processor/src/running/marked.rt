@@ -1,6 +1,6 @@
 //! Marks: those of the processor's own thread, and one that is due and comes into its hand.
 
-ghost use Rattle.std.specs.Prelude.{◌≡◌, ◌==◌, [], false, if◌then◌else◌};
+ghost use Rattle.std.specs.Prelude.{◌≡◌, ◌==◌, [], false, true, if◌then◌else◌};
 ghost use Rattle.um_base.specs.declared.limits.TheConstants.{FUTEX_CELL};
 ghost use Rattle.um_base.specs.declared.names.Reply.TheVariants as Reply;
 ghost use Rattle.um_machine.specs.Time.{late_reply};
@@ -12,11 +12,11 @@ ghost use Rattle.um_processor.specs.{Events.{with_woken}, Phases.{is_idle}, Proc
 use crate::phase::{Phase, Turn};
 use crate::running::Running;
 use crate::turns::made;
-use um_base::{Addr, Errno, FUTEX_CELL, Image, Piece, ROWS, Reply, Row, ThreadIx, Told};
+use um_base::{Addr, FUTEX_CELL, Image, Piece, ROWS, Reply, Row, ThreadIx, Told};
 use um_service::Outcome;
 use um_steps::rows::{addr_of, thread_of_row};
 use um_steps::time::late_reply;
-use um_tables::{Here, Look, NOBODY, Sites, Waiting};
+use um_tables::{Here, Look, Sites, Waiting};
 use um_words::Mark;
 
 /// The thread of the first boot entry.
@@ -87,7 +87,6 @@ impl Running {
             (in_phase Phase.Idle self.old) (processor_of self.old) (processor_of self.new) }
     {
         let (deadline, mark) = made!(sites.give(here));
-        self.context.becomes(&NOBODY);
         self.deadline = deadline;
         self.mark = mark;
         self.phase = Phase::Handle;
@@ -96,6 +95,7 @@ impl Running {
 
     /// Lets time go on to the next deadline.
     pub fn tick<S: Sites>(&mut self, here: &Here, sites: &mut S) -> Turn
+        requires idle { is_idle self.old.phase ≡ true }
         requires goes { CanTurn S.Sites here.now sites.old (in_phase Phase.Idle self.old) }
         ensures turn { HasTended S.Sites result here.now sites.old sites.new
             (in_phase Phase.Idle self.old) (processor_of self.old) (processor_of self.new) }

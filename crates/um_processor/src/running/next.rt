@@ -88,13 +88,14 @@ pub fn first_phase(image: &Image, context: &Context, step: &Pending, behind: &Pe
     }
 }
 
-/// Whether a phase is one of the thread's own next step: there is a thread, and no row is visited, and no other thread is looked for.
+/// Whether a phase is one of the thread's own next step: there is a thread, and no row is visited, and it is no errand.
 fn is_own(phase: Phase) -> bool
     ensures { result ≡ is_own phase }
 {
     match phase {
         Phase::Idle | Phase::Pass | Phase::Drop => false,
         Phase::Look | Phase::TellCut | Phase::Rouse | Phase::AddRoused => false,
+        Phase::Handle | Phase::Paid => false,
         _ => true,
     }
 }

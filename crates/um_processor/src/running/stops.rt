@@ -1,6 +1,7 @@
 //! The events by which threads are aborted, suspended and resumed, and the end of a thread that others await.
 
-ghost use Rattle.std.specs.Prelude.{◌≡◌, [], false};
+ghost use Rattle.std.specs.Prelude.{◌≡◌, ◌==◌, ◌&&◌, [], false, not};
+ghost use Rattle.um_machine.specs.State.{is_living};
 ghost use Rattle.um_machine.specs.declared.pending.Pending.TheVariants as Pending;
 ghost use Rattle.um_processor.specs.declared.phase.Phase.TheVariants as Phase;
 ghost use Rattle.um_processor.specs.{Events.{shows, with_woken}, Phases.{is_idle}, Processors.{OnMade, UnlessMade, in_phase, processor_of}, Turns.{CanTurn, HasEnded, HasRun, TurnsAt}};
@@ -12,7 +13,14 @@ use arrayvec::ArrayVec;
 use um_base::{THREADS, ThreadIx};
 use um_service::Outcome;
 use um_tables::{Here, Sites};
-use um_words::ThreadAct;
+use um_words::{ThreadAct, ThreadWord};
+
+/// Whether a thread that was aborted by another is looked for then, by the word that is left.
+fn is_sought(word: &ThreadWord, who: ThreadIx, thread: ThreadIx) -> bool
+    ensures { result ≡ (is_living word.now.life && not (who.0 == thread.0)) }
+{
+    word.is_living() && who.0 != thread.0
+}
 
 impl Running {
     /// Aborts a thread. Another one that lives is looked for then.
@@ -27,7 +35,7 @@ impl Running {
         let thread = self.thread();
         let word = made!(sites.thread(here, who, &ThreadAct::Abort { thread, who }));
         self.goes_on(here.image);
-        if word.is_living() && who.0 != thread.0 {
+        if is_sought(&word, who, thread) {
             self.looks_for(here.image, who.0, &word);
         }
         Turn::Made
