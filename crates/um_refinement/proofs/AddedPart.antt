@@ -19,6 +19,7 @@ use Rattle.um_refinement.proofs.ListGrips.{read-rests}
 use Rattle.um_refinement.proofs.ListGrowth.{ReadsLast}
 use Rattle.um_refinement.proofs.ListTails.{quiet-next}
 use Rattle.um_refinement.proofs.MemoryPart.{InDomains}
+use Rattle.um_refinement.proofs.NoteFacts.{rests-unnoted}
 use Rattle.um_refinement.proofs.Offered.{own-unless, IsStep, Shows, behind-is, own-same, shown-offers}
 use Rattle.um_refinement.proofs.OwnKept.{starts-another}
 use Rattle.um_refinement.proofs.PartsElsewhere.{cutters-same, elsewhere-of}
@@ -179,7 +180,7 @@ module _ (f : Fine) (m : State) (e : FineStep) (law : Lawful f m e) where
                 let rests = sym (ap (λ (z : Thread). z.pending) (own-unless is.0 (ap waits is.3))) ∙ is.3 in
                 let note = (law.rel.threads d.thread is.0.index).note in
                 let lies : LiesAt f d.thread d = asleep d (ap (asleep_at (joins f)) is.1 ∙ here) in
-                none-left d.noted (sym (note.there d lies) ∙ ap is_some (note.rest rests))
+                none-left d.noted (sym (note.there d lies) ∙ ap is_some (rests-unnoted f m d.thread note rests))
               where
                 none-left : (o : Option ℕ) → is_some o ≡ false → o ≡ None
                 none-left None h = refl

@@ -4,23 +4,7 @@ use Rattle.um_refinement.proofs.Words.{◌≡◌, ◌⊎◌, inl, inr, ℕ, Bool
 use Rattle.um_base.specs.declared.names.Timeout.{Timeout}
 use Rattle.um_machine.specs.Order.{aborts, answer_void, arms}
 use Rattle.um_fine.specs.Places.{is_timer_start}
-
--- from here on the call makes no act and arms no deadline, and it ends
-abbrev pub Ends : Steps → Type 0
-Ends [] = ⊥
-Ends (Pending.Begin ∷ rest) = ⊥
-Ends (Pending.Exit ∷ rest) = ⊥
-Ends (Pending.Work a ask ∷ rest) = ⊥
-Ends (Pending.Join who timeout ∷ rest) = ⊥
-Ends (Pending.FutexWait a value timeout ∷ rest) = ⊥
-Ends (Pending.Arm ticks ∷ rest) = ⊥
-Ends (Pending.ArmTimer ticks ∷ rest) = ⊥
-Ends (Pending.Dooms from ∷ rest) = ⊥
-Ends (Pending.EnterUser script ∷ rest) = ⊥
-Ends (Pending.Answer reply to ∷ rest) = rest ≡ []
-Ends (Pending.Fatal reason cause ∷ rest) = Unit {0}
-Ends (Pending.Killed ∷ rest) = Unit {0}
-Ends (q ∷ rest) = Ends rest
+use Rattle.um_refinement.specs.Stops.{Ends}
 
 -- an act, behind which the call ends
 abbrev pub Acts : Steps → Type 0
@@ -47,12 +31,14 @@ abbrev pub StartsTimer : Steps → Type 0
 StartsTimer (Pending.Work a (Ask.TimerStart deadline) ∷ rest) = Ends rest
 StartsTimer steps = ⊥
 
--- each deadline is armed right before its act, and each timer starts behind one
+-- each deadline is armed right before its act, each timer starts behind one, and behind its act a call ends
 abbrev pub Calm : Steps → Type 0
 Calm [] = Unit {0}
 Calm (Pending.Arm ticks ∷ rest) = Waiting rest
 Calm (Pending.ArmTimer ticks ∷ rest) = StartsTimer rest
-Calm (Pending.Work a ask ∷ rest) = (is_timer_start ask ≡ false) × Calm rest
+Calm (Pending.Work a ask ∷ rest) = (is_timer_start ask ≡ false) × Ends rest
+Calm (Pending.Join who timeout ∷ rest) = Ends rest
+Calm (Pending.FutexWait a value timeout ∷ rest) = Ends rest
 Calm (q ∷ rest) = Calm rest
 
 -- no deadline is armed for the next step of a call with this one
@@ -92,7 +78,7 @@ calm-privileged Mode.Supervisor steps h = h
 calm-init : (a : ℕ) (ask : Ask) → is_timer_start ask ≡ false → (refused : Bool)
     → Calm (if refused then answer_error Errno.EINVAL else work a ask ∷ Pending.SetInit (to_addr a) false None ∷ answer_zero)
 calm-init a ask h true = tt
-calm-init a ask h false = (h, tt)
+calm-init a ask h false = (h, refl)
 
 calm-aborts : (t who : ℕ) → Calm (aborts t who)
 calm-aborts t who = elim (who == t) as (λ b. Calm (Pending.Abort (to_thread who) ∷ (if b then Pending.Killed ∷ [] else answer_void))) [ true ↦ tt | false ↦ tt ]
@@ -107,7 +93,7 @@ calm-creates mode who stack a b script priority options (Some cause) = tt
 calm-creates mode who stack a b script priority options None = calm-inherit options.inherit _ _ tt
 
 calm-buffered : (a : ℕ) (kind : Kind) (lawful : Bool) (size : ℕ) (ask : Ask) → is_timer_start ask ≡ false → Calm (buffered a kind lawful size ask)
-calm-buffered a kind true size ask h = (h, tt)
+calm-buffered a kind true size ask h = (h, refl)
 calm-buffered a kind false size ask h = tt
 
 pub calm-steps : (image : Image) (t : ℕ) (me : Thread) (instr : Instr) → Calm (steps_of image t me instr)
@@ -128,16 +114,16 @@ calm-steps image t me (Instr.SemInit object count limit) = calm-init _ (Ask.SemI
 calm-steps image t me (Instr.MsgqInit object msg_size max_msgs) = calm-buffered _ Kind.Msgq _ _ _ refl
 calm-steps image t me (Instr.StackInit object entries) = calm-buffered _ Kind.Stack _ _ _ refl
 calm-steps image t me (Instr.PipeInit object size) = calm-buffered _ Kind.Pipe _ _ _ refl
-calm-steps image t me (Instr.SemTake object timeout) = calm-arms timeout _ (refl, refl) (refl, tt)
-calm-steps image t me (Instr.MutexLock object timeout) = calm-arms timeout _ (refl, refl) (refl, tt)
-calm-steps image t me (Instr.MsgqPut object addr timeout) = calm-arms timeout _ (refl, refl) (refl, tt)
-calm-steps image t me (Instr.MsgqGet object addr timeout) = calm-arms timeout _ (refl, refl) (refl, tt)
-calm-steps image t me (Instr.StackPop object addr timeout) = calm-arms timeout _ (refl, refl) (refl, tt)
-calm-steps image t me (Instr.PipeWrite object addr length timeout) = calm-arms timeout _ (refl, refl) (refl, tt)
-calm-steps image t me (Instr.PipeRead object addr length timeout) = calm-arms timeout _ (refl, refl) (refl, tt)
+calm-steps image t me (Instr.SemTake object timeout) = calm-arms timeout _ (refl, refl) (refl, refl)
+calm-steps image t me (Instr.MutexLock object timeout) = calm-arms timeout _ (refl, refl) (refl, refl)
+calm-steps image t me (Instr.MsgqPut object addr timeout) = calm-arms timeout _ (refl, refl) (refl, refl)
+calm-steps image t me (Instr.MsgqGet object addr timeout) = calm-arms timeout _ (refl, refl) (refl, refl)
+calm-steps image t me (Instr.StackPop object addr timeout) = calm-arms timeout _ (refl, refl) (refl, refl)
+calm-steps image t me (Instr.PipeWrite object addr length timeout) = calm-arms timeout _ (refl, refl) (refl, refl)
+calm-steps image t me (Instr.PipeRead object addr length timeout) = calm-arms timeout _ (refl, refl) (refl, refl)
 calm-steps image t me (Instr.Abort thread) = calm-aborts t _
-calm-steps image t me (Instr.Join thread timeout) = calm-arms timeout _ refl tt
-calm-steps image t me (Instr.FutexWait addr value timeout) = calm-arms timeout _ refl tt
+calm-steps image t me (Instr.Join thread timeout) = calm-arms timeout _ refl refl
+calm-steps image t me (Instr.FutexWait addr value timeout) = calm-arms timeout _ refl refl
 calm-steps image t me (Instr.TimerStart object ticks) = refl
 calm-steps image t me (Instr.Set to value) = tt
 calm-steps image t me (Instr.Add to value) = tt
@@ -154,4 +140,4 @@ calm-steps image t me (Instr.NameSet thread addr) = tt
 calm-steps image t me (Instr.Suspend thread) = tt
 calm-steps image t me (Instr.Continue thread) = tt
 calm-steps image t me (Instr.FutexWake addr all) = tt
-calm-steps image t me _ = (refl, tt)
+calm-steps image t me _ = (refl, refl)

@@ -8,7 +8,8 @@ use Rattle.um_machine.specs.Order.{to_deadline}
 use Rattle.um_machine.specs.Run.{stops, leaves}
 use Rattle.um_machine.specs.Table as T
 use Rattle.um_machine.specs.Writes.{cut}
-use Rattle.um_refinement.proofs.ArmSteps.{Acts, Calm, Ends, StartsTimer, Timed, Unarmed, Waiting, calm-steps, waiting-acts, rests-unarmed, unarmed-ways}
+use Rattle.um_refinement.specs.Stops.{Ends}
+use Rattle.um_refinement.proofs.ArmSteps.{Acts, Calm, StartsTimer, Timed, Unarmed, Waiting, calm-steps, waiting-acts, rests-unarmed, unarmed-ways}
 use Rattle.um_refinement.proofs.Erased.{IsReachable}
 use Rattle.um_refinement.proofs.FirstThreads.{opening-is}
 use Rattle.um_refinement.proofs.StepsLeft.{fatal-left}
@@ -168,17 +169,17 @@ module _ (until : Option ℕ) where
 
   -- behind an act none is armed for the next step
   acted : (rest : Steps) (ask : Ask) (a : Addr) → Timed until (Pending.Work a ask ∷ rest) → Unarmed until rest
-  acted rest ask a (inl (inl h)) = inl (h.0, h.1.1)
+  acted rest ask a (inl (inl h)) = inr h.1.1
   acted rest ask a (inl (inr h)) = absurd h
   acted rest ask a (inr h) = inr h
 
   joined : (rest : Steps) (who : ThreadIx) (timeout : Timeout) → Timed until (Pending.Join who timeout ∷ rest) → Unarmed until rest
-  joined rest who timeout (inl (inl h)) = inl h
+  joined rest who timeout (inl (inl h)) = inr h.1
   joined rest who timeout (inl (inr h)) = absurd h
   joined rest who timeout (inr h) = inr h
 
   watched : (rest : Steps) (a : Addr) (value : ℕ) (timeout : Timeout) → Timed until (Pending.FutexWait a value timeout ∷ rest) → Unarmed until rest
-  watched rest a value timeout (inl (inl h)) = inl h
+  watched rest a value timeout (inl (inl h)) = inr h.1
   watched rest a value timeout (inl (inr h)) = absurd h
   watched rest a value timeout (inr h) = inr h
 

@@ -1,12 +1,13 @@
 -- At the opening nobody is noted, cut, looked for or asleep, and no mark is there; who lives may be joined.
-use Rattle.um_refinement.proofs.Words.{◌≡◌, ◌⊎◌, inl, inr, ℕ, zero, suc, ◌+◌, ◌<◌, ◌≤◌, Bool, true, false, List, [], ◌∷◌, length, None, refl, sym, ap, ◌∙◌, arith, IsTrue, is_some, not, slice_index_or, false≢true, true≢false, THREADS, Image, Thread, Pending, Steps, State, object_at, thread_at, own_row, opening, Context, Todo, Todos, Fine}
+use Rattle.um_refinement.proofs.Words.{◌≡◌, ◌⊎◌, inl, inr, ℕ, zero, suc, ◌+◌, ◌<◌, ◌≤◌, Bool, true, false, List, [], ◌∷◌, length, None, refl, sym, ap, ◌∙◌, arith, IsTrue, ◌==◌, if◌then◌else◌, is_some, not, slice_index_or, false≢true, true≢false, THREADS, Image, Thread, Pending, Steps, State, object_at, thread_at, own_row, opening, Context, Todo, Todos, Fine}
 use Rattle.um_machine.specs.State.{is_living, is_started}
 use Rattle.um_fine.specs.Joins.{is_shut}
 use Rattle.um_fine.specs.Opening.{indexed}
 use Rattle.um_fine.specs.Processor.{first_boot}
 use Rattle.um_fine.specs.Seeking.{stands_in}
-use Rattle.um_refinement.specs.Fine.{joins}
-use Rattle.um_refinement.specs.Stops.{HasOwn, keeps, CutComes, CutIs, JoinsAre, LiesAt, LookThere, LooksFit, NoteIs, ShutIs, SleepIs, asleep, parked, runs_it, waits_at}
+use Rattle.um_base.specs.declared.limits.TheConstants.{FUTEX_CELL, JOIN_CELL}
+use Rattle.um_refinement.specs.Fine.{bytes, joins, object}
+use Rattle.um_refinement.specs.Stops.{HasOwn, keeps, CutComes, CutIs, JoinsAre, LiesAt, LookThere, LooksFit, NoteIs, NotesAre, ShutIs, SleepIs, asleep, parked, runs_it, waits_at}
 use Rattle.um_refinement.specs.Threads.{cutters}
 use Rattle.um_refinement.specs.Timing.{ClockIs, ExpiryComes, IsUnarmed, MarksAre, OwedIs, TimeoutComes, TimerIs}
 use Rattle.um_refinement.proofs.First.{first, none-some, total-none}
@@ -67,7 +68,7 @@ module _ (image : Image) (cpus : ℕ) where
         cell = λ site h. absurd (none-some h);
         waits = λ c few h. absurd (none-waits t c h);
         kept = λ x c few h lies. absurd (none-waits t x h);
-        rest = λ h. refl;
+        call = λ site h. absurd (none-some h);
       }
 
   pub cut-first : (t : ℕ) → CutIs f m t
@@ -132,6 +133,14 @@ module _ (image : Image) (cpus : ℕ) where
   pub joins-first : JoinsAre f m
   joins-first =
       record { waiters = sym (opening-joins image); shut = indexed-long (λ n (me : Thread). not (object_at m (own_row m.image n)).init) 0 m.threads ∙ threads-long image; asleep = copies-long THREADS unslept }
+
+  pub notes-first : NotesAre f
+  notes-first = record { places = λ c few. by c (c == JOIN_CELL) (c == FUTEX_CELL) }
+    where
+      by : (c : ℕ) (a b : Bool) → length (if a then (joins f).noted else if b then (bytes f).noted else (object f c).noted) ≡ THREADS
+      by c true b = refl
+      by c false true = refl
+      by c false false = refl
 
   pub clock-first : ClockIs f m
   clock-first = record { now = sym (opening-now image); armed = sym (opening-armed image) }

@@ -196,7 +196,9 @@ pub mod Lying
 pub mod LooksPart
 pub mod NoteNumbers
 pub mod NoteSteps
-pub mod NotesAtRest
+pub mod NotesCall
+pub mod NotedCalls
+pub mod NoteFacts
 pub mod NotesBegun
 pub mod NotesHeld
 pub mod NotesKept

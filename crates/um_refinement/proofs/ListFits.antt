@@ -4,7 +4,7 @@ use Rattle.um_words.specs.Threads.{is_awake}
 use Rattle.um_fine.specs.Answers.{is_void}
 use Rattle.um_fine.specs.Follows.{rereads, shown_step, told_all, told_marked, waits_behind, with_actor}
 use Rattle.um_fine.specs.Places.{armed_for, clearing, noted_cell, noting, put_away, settling}
-use Rattle.um_refinement.specs.Offers.{ClearsOwn}
+use Rattle.um_refinement.specs.Offers.{ClearsOwn, IsNotedBy}
 use Rattle.um_refinement.proofs.StepsLeft.{rests-on, steps-on}
 use Rattle.um_refinement.specs.Offers.{Bare, begins, dropped, exits, goes, passed}
 use Rattle.um_refinement.proofs.ListGrowth.{behind-kept, claim-context, cleaning-kept, either-look, claim-kept, either, is_errand, looks-kept, unless}
@@ -61,26 +61,35 @@ module _ (image : Image) where
   offered-noted c number (begins e on i) = begins e on i
   offered-noted c number (exits e on i) = exits e on i
 
-  noting-fits : (c : Context) (site : Option ℕ) (todo : Todos) → ((number : ℕ) → Fits image (record c { noted = Some number }) todo) → Fits image c todo → Fits image c (noting image c site todo)
-  noting-fits c None todo noted h = h
-  noting-fits c (Some site) todo noted h = elim (is_some c.noted) as (λ b. Fits image c (if b then todo else Todo.note site ∷ todo)) [ true ↦ h | false ↦ noted ]
+  noting-fits : (c : Context) (site : Option ℕ) (todo : Todos) → ((number : ℕ) → Fits image (record c { noted = Some number }) todo)
+      → (((there : ℕ) → site ≡ Some there → is_some c.noted ≡ true) → Fits image c todo) → Fits image c (noting image c site todo)
+  noting-fits c None todo noted h = h (λ there k. absurd (false≢true (ap is_some k)))
+  noting-fits c (Some site) todo noted h = by (is_some c.noted) refl
+    where
+      by : (b : Bool) → is_some c.noted ≡ b → Fits image c (if b then todo else Todo.note site ∷ todo)
+      by true k = h (λ there z. k)
+      by false k = noted
+
+  -- a step before which no cell is noted
+  unnoted : (c : Context) (q : Pending) → noted_cell image (q ∷ []) ≡ None → IsNotedBy image c q
+  unnoted c q none site h = absurd (false≢true (ap is_some (sym none ∙ h)))
 
   clear-fits : (c : Context) (own : Bool) (a : Addr) (rest : Steps) → (row_named image a == own_row image c.thread) ≡ own → IsOffered image c (Pending.ClearInit a) rest → Fits image c (clearing image own (Pending.ClearInit a) rest)
-  clear-fits c true a rest own h = (own, (h, refl))
-  clear-fits c false a rest own h = (h, refl)
+  clear-fits c true a rest own h = (own, (h, refl, unnoted c (Pending.ClearInit a) refl))
+  clear-fits c false a rest own h = (h, refl, unnoted c (Pending.ClearInit a) refl)
 
   fine-fits : (c : Context) (q : Pending) (rest : Steps) → IsOffered image c q rest → Fits image c (fine_steps image c q rest)
   fine-fits c (Pending.Work a ask) rest h =
-      let q = Pending.Work a ask in noting-fits c (noted_cell image (q ∷ [])) (Todo.show q rest ∷ settling image c (armed_for image c q) q) (λ number. (offered-noted c number h, refl)) (h, refl)
+      let q = Pending.Work a ask in noting-fits c (noted_cell image (q ∷ [])) (Todo.show q rest ∷ settling image c (armed_for image c q) q) (λ number. (offered-noted c number h, refl, λ there k. refl)) (λ has. (h, refl, has))
   fine-fits c (Pending.Join who timeout) rest h =
-      let q = Pending.Join who timeout in noting-fits c (noted_cell image (q ∷ [])) (Todo.show q rest ∷ settling image c (armed_for image c q) q) (λ number. (offered-noted c number h, refl)) (h, refl)
+      let q = Pending.Join who timeout in noting-fits c (noted_cell image (q ∷ [])) (Todo.show q rest ∷ settling image c (armed_for image c q) q) (λ number. (offered-noted c number h, refl, λ there k. refl)) (λ has. (h, refl, has))
   fine-fits c (Pending.FutexWait a value timeout) rest h =
-      let q = Pending.FutexWait a value timeout in noting-fits c (noted_cell image (q ∷ [])) (on_memory q rest ++ settling image c (armed_for image c q) q) (λ number. (offered-noted c number h, refl)) (h, refl)
-  fine-fits c (Pending.Arm ticks) rest h = noting-fits c (noted_cell image rest) (Todo.owe ∷ Todo.show (Pending.Arm ticks) rest ∷ []) (λ number. (offered-noted c number h, refl)) (h, refl)
+      let q = Pending.FutexWait a value timeout in noting-fits c (noted_cell image (q ∷ [])) (on_memory q rest ++ settling image c (armed_for image c q) q) (λ number. (offered-noted c number h, refl, λ there k. refl)) (λ has. (h, refl, has))
+  fine-fits c (Pending.Arm ticks) rest h = noting-fits c (noted_cell image rest) (Todo.owe ∷ Todo.show (Pending.Arm ticks) rest ∷ []) (λ number. (offered-noted c number h, refl, λ there k. refl)) (λ has. (h, refl, unnoted c (Pending.Arm ticks) refl))
   fine-fits c (Pending.ClearInit a) rest h = clear-fits c (row_named image a == own_row image c.thread) a rest refl h
-  fine-fits c (Pending.Probe a amount) rest h = either-look image (Fits image c) amount _ (λ x k. k) (h, refl)
-  fine-fits c (Pending.CopyIn a amount) rest h = either-look image (Fits image c) amount _ (λ x k. k) (h, refl)
-  fine-fits c q rest h = (h, refl)
+  fine-fits c (Pending.Probe a amount) rest h = either-look image (Fits image c) amount _ (λ x k. k) (h, refl, unnoted c (Pending.Probe a amount) refl)
+  fine-fits c (Pending.CopyIn a amount) rest h = either-look image (Fits image c) amount _ (λ x k. k) (h, refl, unnoted c (Pending.CopyIn a amount) refl)
+  fine-fits c q rest h = (h, refl, unnoted c q refl)
 
   -- the fine steps of a step are by what of the thread stays in its visits
   fine-same : (c : Context) (steps : Steps) (q : Pending) (rest : Steps) → fine_steps image (record c { pending = steps }) q rest ≡ fine_steps image c q rest
@@ -153,8 +162,8 @@ module _ (image : Image) where
   turn-fits c h = by (instruction_at image c.place) refl
     where
       by : (instr : Option Instr) → instruction_at image c.place ≡ instr → Fits image c (turn_of image instr)
-      by None e = (exits h.0 h.1 e, refl)
-      by (Some instr) e = (begins h.0 h.1 (ap is_some e), refl)
+      by None e = (exits h.0 h.1 e, refl, unnoted c Pending.Exit refl)
+      by (Some instr) e = (begins h.0 h.1 (ap is_some e), refl, unnoted c Pending.Begin refl)
 
   take-fits : (p : Processor) (moved : Exchange) → p.todo ≡ [] → IsAtRest moved → ListIs image (after_take image p moved)
   take-fits p (Exchange.thread c None) idle h = by (is_empty c.pending) refl

@@ -10,6 +10,7 @@ use Rattle.um_fine.specs.Runs.{changed}
 use Rattle.um_machine.specs.Order.{to_deadline, to_row}
 use Rattle.um_machine.specs.Time.{next_deadline}
 use Rattle.um_refinement.specs.Fine.{clock}
+use Rattle.um_refinement.specs.Offers.{IsNotedBy}
 use Rattle.um_refinement.specs.Lists.{is_arm, times}
 use Rattle.um_refinement.specs.Stops.{is_waiting_site}
 use Rattle.um_refinement.specs.Timing.{IsHand, IsPaying, MarksAre, armed_next, handles, is_open, is_placed, is_sound, open_marks, settles}
@@ -259,7 +260,7 @@ module _ (f : Fine) (m : State) (e : FineStep) (law : Lawful f m e) (tells : Tel
   -- A deadline is armed.
 
   module _ (q : Pending) (rest : Steps) (todo : Todos) (at : p.todo ≡ Todo.show q rest ∷ todo) where
-    fits : IsOffered f.image p.context q rest × (todo ≡ behind_shown f.image p.context q)
+    fits : IsOffered f.image p.context q rest × (todo ≡ behind_shown f.image p.context q) × IsNotedBy f.image p.context q
     fits = subst (Fits f.image p.context) at (law.rel.processors e.cpu law.by.named).list.fits
 
     own-stands : waits (q ∷ rest) ≡ false → Stands p.context.until q rest

@@ -1,5 +1,6 @@
--- The number of its note that a cell keeps of a thread stays at every step that isn't an event of that thread.
-use Rattle.um_refinement.proofs.Words.{length, ◌≡◌, ◌≢◌, ℕ, ◌+◌, ◌<◌, Bool, true, false, cond, List, refl, sym, ap, ◌∙◌, ◌==◌, if◌then◌else◌, eqb-false, get_or-set_other, same-sound, slice_index_or, slice_set, ROWS, Act, Answer, Exchange, FineAct, FineStep, Unseen, Pending, Steps, State, ThreadIx, to_thread, act_in, answer_in, allows, caller_in, shows, site_after, s_next, same_site, Site, SiteState, Bytes, ObjectCell, Todos, Fine, bytes, bytes_state, memory_after, object, arith}
+-- The number of its note that a cell keeps of a thread stays at every step that isn't an event of that thread, and each cell keeps a place for the number
+-- of each thread.
+use Rattle.um_refinement.proofs.Words.{length, length-set, ◌≡◌, ◌≢◌, ℕ, ◌+◌, ◌<◌, Bool, true, false, cond, List, refl, sym, subst, ap, ◌∙◌, ◌==◌, if◌then◌else◌, eqb-false, get_or-set_other, same-sound, slice_index_or, slice_set, ROWS, Act, Answer, Exchange, FineAct, FineStep, Unseen, Pending, Steps, State, ThreadIx, to_thread, act_in, answer_in, allows, caller_in, shows, site_after, s_next, same_site, Site, SiteState, Bytes, ObjectCell, Todos, Fine, bytes, bytes_state, memory_after, object, arith}
 use Rattle.um_base.specs.declared.limits.TheConstants.{FUTEX_CELL, JOIN_CELL}
 use Rattle.um_base.specs.declared.names.Access.TheVariants as Access
 use Rattle.um_fine.specs.Answers.{noted_in}
@@ -7,7 +8,7 @@ use Rattle.um_fine.specs.Asks.{moves_show}
 use Rattle.um_fine.specs.Joins.{Joins, begins_waiting, join_after, join_after_act}
 use Rattle.um_fine.specs.Objects.{object_after, object_after_act}
 use Rattle.um_refinement.specs.Fine.{joins}
-use Rattle.um_refinement.specs.Stops.{noted_at}
+use Rattle.um_refinement.specs.Stops.{NotesAre, noted_at, notes_in}
 use Rattle.um_refinement.proofs.CellSteps.{cell-else, cell-here}
 use Rattle.um_refinement.proofs.Erased.{around}
 use Rattle.um_refinement.proofs.Leaves.{Beside, Lawful, Leaves, beside as beside_it, cleans, cuts, drops, event, expires, leaves as leaves_it, nothing, passes, recycles, resumes, ticks, times_out}
@@ -19,11 +20,9 @@ use Rattle.um_refinement.proofs.ParkedPart.{joins-else, joins-later}
 other-place : (xs : List ℕ) (u t n : ℕ) → u ≢ t → slice_index_or (slice_set xs u n) t 0 ≡ slice_index_or xs t 0
 other-place xs u t n apart = get_or-set_other xs u t n 0 (λ same. apart (sym same))
 
-module _ (f : Fine) (m : State) (e : FineStep) (law : Lawful f m e) (t : ℕ) where
+-- What is read of the numbers that a cell keeps, where one more leaves it that is of such a thread.
+module _ (f : Fine) (m : State) (e : FineStep) (law : Lawful f m e) (At : List ℕ → ℕ) (Other : ℕ → Type 0) (left-by : (xs : List ℕ) (u n : ℕ) → Other u → At (slice_set xs u n) ≡ At xs) where
   open around f e use {later, processor as p}
-
-  abbrev At : List ℕ → ℕ
-  At xs = slice_index_or xs t 0
 
   -- an act that leaves that in each cell
   record Keeps (act : FineAct) : Type 0 where
@@ -31,7 +30,7 @@ module _ (f : Fine) (m : State) (e : FineStep) (law : Lawful f m e) (t : ℕ) wh
     of_joins : (j : Joins) → At (join_after j act e.moved).noted ≡ At j.noted
     of_bytes : (b : Bytes) → At (memory_after f.image b (act_in act) e.moved).noted ≡ At b.noted
 
-  kept-by : (act : FineAct) → e.act ≡ act → Keeps act → (c : ℕ) → c < ROWS + 2 → noted_at later c t ≡ noted_at f c t
+  kept-by : (act : FineAct) → e.act ≡ act → Keeps act → (c : ℕ) → c < ROWS + 2 → At (notes_in later c) ≡ At (notes_in f c)
   kept-by act said keeps c few = by (c == JOIN_CELL) refl (c == FUTEX_CELL) refl
     where
       joins-same : At (joins later).noted ≡ At (joins f).noted
@@ -86,24 +85,24 @@ module _ (f : Fine) (m : State) (e : FineStep) (law : Lawful f m e) (t : ℕ) wh
       joins-kept j (Unseen.Rouse who) = refl
       joins-kept j u = refl
 
-  -- An event of another thread.
+  -- An event of such a thread.
 
-  module _ (q : Pending) (rest : Steps) (todo : Todos) (h : Shows f m e.cpu e q rest todo) (apart : p.context.thread ≢ t) where
-    asker-apart : (caller_in (moves_show f.image p q rest e.moved)).thread ≡ to_thread p.context.thread → (caller_in e.moved).thread.0 ≢ t
-    asker-apart is = λ same. apart (sym (ap (λ (who : ThreadIx). who.0) (ap (λ (mv : Exchange). (caller_in mv).thread) (moved-made h) ∙ is)) ∙ same)
+  module _ (q : Pending) (rest : Steps) (todo : Todos) (h : Shows f m e.cpu e q rest todo) (apart : Other p.context.thread) where
+    asker-apart : (caller_in (moves_show f.image p q rest e.moved)).thread ≡ to_thread p.context.thread → Other (caller_in e.moved).thread.0
+    asker-apart is = subst Other (sym (ap (λ (who : ThreadIx). who.0) (ap (λ (mv : Exchange). (caller_in mv).thread) (moved-made h) ∙ is))) apart
 
-  event-keeps : (q : Pending) (rest : Steps) (todo : Todos) → Shows f m e.cpu e q rest todo → p.context.thread ≢ t → Keeps (shows f.image p q e.act)
+  event-keeps : (q : Pending) (rest : Steps) (todo : Todos) → Shows f m e.cpu e q rest todo → Other p.context.thread → Keeps (shows f.image p q e.act)
   event-keeps (Pending.Work a ask) rest todo h apart =
-      record { of_object = λ o. other-place o.noted (caller_in e.moved).thread.0 t (noted_in e.moved) (asker-apart (Pending.Work a ask) rest todo h apart refl); of_joins = λ j. refl; of_bytes = λ b. refl }
+      record { of_object = λ o. left-by o.noted (caller_in e.moved).thread.0 (noted_in e.moved) (asker-apart (Pending.Work a ask) rest todo h apart refl); of_joins = λ j. refl; of_bytes = λ b. refl }
   event-keeps (Pending.Join who timeout) rest todo h apart = record { of_object = λ o. refl; of_joins = λ j. by j (answer_in (act_in e.act)); of_bytes = λ b. refl }
     where
       by : (j : Joins) (a : Answer) → At (begins_waiting j e.moved a).noted ≡ At j.noted
-      by j Answer.Wait = other-place j.noted (caller_in e.moved).thread.0 t (noted_in e.moved) (asker-apart (Pending.Join who timeout) rest todo h apart refl)
+      by j Answer.Wait = left-by j.noted (caller_in e.moved).thread.0 (noted_in e.moved) (asker-apart (Pending.Join who timeout) rest todo h apart refl)
       by j (Answer.Now reply) = refl
   event-keeps (Pending.FutexWait a value timeout) rest todo h apart = record { of_object = λ o. refl; of_joins = λ j. refl; of_bytes = λ b. by b (answer_in (act_in e.act)) }
     where
       by : (b : Bytes) (n : Answer) → At (memory_after f.image b (Act.FutexWait a value n) e.moved).noted ≡ At b.noted
-      by b Answer.Wait = other-place b.noted (caller_in e.moved).thread.0 t (noted_in e.moved) (asker-apart (Pending.FutexWait a value timeout) rest todo h apart refl)
+      by b Answer.Wait = left-by b.noted (caller_in e.moved).thread.0 (noted_in e.moved) (asker-apart (Pending.FutexWait a value timeout) rest todo h apart refl)
       by b (Answer.Now reply) = refl
   event-keeps (Pending.Load to a n) rest todo h apart =
       let b = allows f.image p Access.Read a.0 n in
@@ -135,20 +134,34 @@ module _ (f : Fine) (m : State) (e : FineStep) (law : Lawful f m e) (t : ℕ) wh
       by b n false = refl
   event-keeps q rest todo h apart = record { of_object = λ o. refl; of_joins = λ j. refl; of_bytes = λ b. refl }
 
-  -- each step keeps it that is no event of the thread
-  pub noted-kept : (s : State) → Leaves f m e s → ((q : Pending) (rest : Steps) (todo : Todos) → Shows f m e.cpu e q rest todo → p.context.thread ≢ t) → (c : ℕ) → c < ROWS + 2 → noted_at later c t ≡ noted_at f c t
-  noted-kept _ (nothing u said) apart = kept-by (FineAct.Unseen u) said (unseen-keeps u)
-  noted-kept _ (event q rest todo x h shown is) apart = kept-by (shows f.image p q e.act) is.said (event-keeps q rest todo h (apart q rest todo h))
-  noted-kept _ (resumes c told rest idle moved said) apart = kept-by _ said (record { of_object = λ o. refl; of_joins = λ j. refl; of_bytes = λ b. refl })
-  noted-kept _ (passes who x rest todo h said) apart = kept-by _ said (record { of_object = λ o. refl; of_joins = λ j. refl; of_bytes = λ b. refl })
-  noted-kept _ (drops from x rest todo h said) apart = kept-by _ said (record { of_object = λ o. refl; of_joins = λ j. refl; of_bytes = λ b. refl })
-  noted-kept _ (cleans who x rest todo h said) apart = kept-by _ said (record { of_object = λ o. refl; of_joins = λ j. refl; of_bytes = λ b. refl })
-  noted-kept _ (recycles x rest todo at l said chosen) apart = kept-by _ said (record { of_object = λ o. refl; of_joins = λ j. refl; of_bytes = λ b. refl })
-  noted-kept _ (beside_it u x q how chosen started) apart = by how
+  -- each step keeps it whose events are of such a thread
+  read-kept : (s : State) → Leaves f m e s → ((q : Pending) (rest : Steps) (todo : Todos) → Shows f m e.cpu e q rest todo → Other p.context.thread) → (c : ℕ) → c < ROWS + 2 → At (notes_in later c) ≡ At (notes_in f c)
+  read-kept _ (nothing u said) apart = kept-by (FineAct.Unseen u) said (unseen-keeps u)
+  read-kept _ (event q rest todo x h shown is) apart = kept-by (shows f.image p q e.act) is.said (event-keeps q rest todo h (apart q rest todo h))
+  read-kept _ (resumes c told rest idle moved said) apart = kept-by _ said (record { of_object = λ o. refl; of_joins = λ j. refl; of_bytes = λ b. refl })
+  read-kept _ (passes who x rest todo h said) apart = kept-by _ said (record { of_object = λ o. refl; of_joins = λ j. refl; of_bytes = λ b. refl })
+  read-kept _ (drops from x rest todo h said) apart = kept-by _ said (record { of_object = λ o. refl; of_joins = λ j. refl; of_bytes = λ b. refl })
+  read-kept _ (cleans who x rest todo h said) apart = kept-by _ said (record { of_object = λ o. refl; of_joins = λ j. refl; of_bytes = λ b. refl })
+  read-kept _ (recycles x rest todo at l said chosen) apart = kept-by _ said (record { of_object = λ o. refl; of_joins = λ j. refl; of_bytes = λ b. refl })
+  read-kept _ (beside_it u x q how chosen started) apart = by how
     where
-      by : {u x : ℕ} {q : Pending} → Beside f m e u x q → (c : ℕ) → c < ROWS + 2 → noted_at later c t ≡ noted_at f c t
+      by : {u x : ℕ} {q : Pending} → Beside f m e u x q → (c : ℕ) → c < ROWS + 2 → At (notes_in later c) ≡ At (notes_in f c)
       by (cuts who site before x todo at place inside said) = kept-by _ said (record { of_object = λ o. refl; of_joins = λ j. refl; of_bytes = λ b. refl })
       by (times_out deadline site x who todo at place inside said) = kept-by _ said (record { of_object = λ o. refl; of_joins = λ j. refl; of_bytes = λ b. refl })
       by (expires deadline x todo at inside said) = kept-by _ said (record { of_object = λ o. refl; of_joins = λ j. refl; of_bytes = λ b. refl })
       by (ticks at said) = kept-by _ said (record { of_object = λ o. refl; of_joins = λ j. refl; of_bytes = λ b. refl })
       by (leaves_it todo at said) = kept-by _ said (record { of_object = λ o. refl; of_joins = λ j. refl; of_bytes = λ b. refl })
+
+module _ (f : Fine) (m : State) (e : FineStep) (law : Lawful f m e) where
+  open around f e use {later, processor as p}
+
+  -- each step keeps the number of a thread that is no event of it
+  pub noted-kept : (t : ℕ) (s : State) → Leaves f m e s → ((q : Pending) (rest : Steps) (todo : Todos) → Shows f m e.cpu e q rest todo → p.context.thread ≢ t) → (c : ℕ) → c < ROWS + 2 → noted_at later c t ≡ noted_at f c t
+  noted-kept t = read-kept f m e law (λ xs. slice_index_or xs t 0) (λ u. u ≢ t) (λ xs u n apart. other-place xs u t n apart)
+
+  -- and the places
+  pub notes-part : (s : State) → Leaves f m e s → NotesAre later
+  notes-part s left =
+      record {
+        places = λ c few. read-kept f m e law length (λ u. Unit {0}) (λ xs u n apart. length-set xs u n) s left (λ q rest todo h. tt) c few ∙ law.rel.notes.places c few
+      }

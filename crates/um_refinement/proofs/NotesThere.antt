@@ -20,6 +20,7 @@ use Rattle.um_refinement.proofs.ListGrips.{next-thread}
 use Rattle.um_refinement.proofs.ListGrowth.{is_end}
 use Rattle.um_refinement.proofs.ListRuns.{ends-rests, goes-runs, takes-none}
 use Rattle.um_refinement.proofs.LooksPart.{part-of}
+use Rattle.um_refinement.proofs.NoteFacts.{rests-unnoted}
 use Rattle.um_refinement.proofs.NoteSteps.{Noting, final-note, finals, is_final, notes, noting, starts, stays, thread_of}
 use Rattle.um_refinement.proofs.Offered.{IsStep, Shows, own-unless, runs-first, shown-on, shows-runs}
 use Rattle.um_refinement.proofs.OncePart.{stays-over}
@@ -359,7 +360,7 @@ module _ (f : Fine) (m : State) (e : FineStep) (law : Lawful f m e) (s : State) 
           put-lay true d c new.0.index (sym (ap (λ (z : Scheduler). parked_at z t) after) ∙ there)
           (λ same is.
           let rests : (thread_at m t).pending ≡ [] = subst (λ n. (thread_at m n).pending ≡ []) same (sym (ap (λ (z : Thread). z.pending) (own-unless new.0 (ap waits new.2))) ∙ new.2) in
-          ap is_some (plain-word (ap touches at) ∙ (law.rel.threads t few).note.rest rests) ∙ sym (ap is_some (ap (λ (z : Context). z.noted) is ∙ new.3)))
+          ap is_some (plain-word (ap touches at) ∙ rests-unnoted f m t (law.rel.threads t few).note rests) ∙ sym (ap is_some (ap (λ (z : Context). z.noted) is ∙ new.3)))
 
       at-scheduler : (q : Todo) (todo : Todos) (act : FineAct) → e.site ≡ Site.scheduler → e.act ≡ act → parked_at (sched_after (scheduler f) act e.moved) t ≡ parked_at (scheduler f) t → Matches c
       at-scheduler q todo act site said same = parked-still c (sym same ∙ (sym (ap (λ (z : Scheduler). parked_at z t) (sched-later f m e law site act said)) ∙ there))

@@ -310,6 +310,7 @@ module _ {f : Fine} {m : State} {k : ℕ} {e : FineStep} {q : Pending} {rest : S
   takes-at i act site said = subst (λ (z : Site × FineAct). IsTrue (site_takes (f.sites z.0) z.1)) (λ j. (site j, said j)) h.taken.takes
 
   listed-fits : IsOffered f.image (f.processors k).context h.listed rest × (todo ≡ behind_shown f.image (f.processors k).context h.listed)
+      × O.IsNotedBy f.image (f.processors k).context h.listed
   listed-fits = subst (Fits f.image (f.processors k).context) h.at (h.rel.processors k h.there).list.fits
 
   -- what stands on the list behind it
@@ -321,6 +322,10 @@ module _ {f : Fine} {m : State} {k : ℕ} {e : FineStep} {q : Pending} {rest : S
       none Pending.Exit s = refl
       none Pending.Killed s = refl
       none z s = absurd s
+
+  -- an act that may wait is of a call that has noted its cell
+  pub noted-by : O.IsNotedBy f.image (f.processors k).context q
+  noted-by = by-made (λ z. O.IsNotedBy f.image (f.processors k).context z) (λ killed. listed-fits.2) (λ killed stopping site none. absurd (false≢true (ap is_some none)))
 
   -- so its thread has a step left
   pub shown-on : is_over (f.processors k).context ≡ false

@@ -4,7 +4,7 @@ use Rattle.um_refinement.proofs.Words.{true, ℕ, ◌≤◌, [], length, Image, 
 use Rattle.um_refinement.proofs.First.{blocks-first, cleaning-first, domains-first, first, held-first, idle-first, kept-first, lists-first, looks-first, running-first, sorts-along, tables-first}
 use Rattle.um_refinement.proofs.FirstObjects.{OwnStands, claims-first, cleaner-first, cleaners-first, contents-first, heap-first, opening-image, pairs-all-first, status-first}
 use Rattle.um_refinement.proofs.FirstReady.{OneEach, ready-first}
-use Rattle.um_refinement.proofs.FirstStops.{HasActor, OwnKept, OwnMarked, clock-first, cut-comes-first, cut-first, expiry-first, joins-first, look-there-first, looks-fit-first, marks-first, note-first, owed-first, shut-first, sleep-first, timeout-first, timer-first, unarmed-first}
+use Rattle.um_refinement.proofs.FirstStops.{HasActor, OwnKept, OwnMarked, clock-first, cut-comes-first, cut-first, expiry-first, joins-first, look-there-first, looks-fit-first, marks-first, note-first, notes-first, owed-first, shut-first, sleep-first, timeout-first, timer-first, unarmed-first}
 use Rattle.um_refinement.proofs.FirstThreads.{away-first, contexts-first, dues-first, memory-first, scheduler-first, told-first, words-first}
 
 pub opens : (image : Image) (cpus : ℕ) → length image.objects ≤ STATIC_ROWS → OneEach image cpus → OwnStands image cpus → OwnMarked image → OwnKept image → HasActor image → Rel (first image cpus) (opening image)
@@ -60,6 +60,7 @@ opens image cpus few one stands marked kept acts =
       memory = memory-first image cpus;
       heap = heap-first image cpus few;
       joins = joins-first image cpus;
+      notes = notes-first image cpus;
       clock = clock-first image cpus;
       owed = owed-first image cpus;
       marks = marks-first image cpus;

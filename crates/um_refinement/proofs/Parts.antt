@@ -38,9 +38,10 @@ use Rattle.um_refinement.specs.Fine.{joins}
 use Rattle.um_refinement.specs.Stops.{cell_site, notes_in}
 use Rattle.um_refinement.proofs.NoteCells.{note-cell}
 use Rattle.um_refinement.proofs.NoteNumbers.{note-number}
-use Rattle.um_refinement.proofs.NotesAtRest.{Rests, notes-at-rest}
 use Rattle.um_refinement.proofs.NotesBegun.{notes-begun}
+use Rattle.um_refinement.proofs.NotesCall.{begun-noted, note-call}
 use Rattle.um_refinement.proofs.NotesHeld.{notes-held}
+use Rattle.um_refinement.proofs.NotesKept.{notes-part}
 use Rattle.um_refinement.proofs.NotesThere.{note-there}
 use Rattle.um_refinement.proofs.ShutAlone.{shut-alone}
 use Rattle.um_refinement.proofs.ShutBegins.{begins-part}
@@ -128,17 +129,10 @@ module _ (f : Fine) (m : State) (e : FineStep) (law : Lawful f m e) where
     pub untils : UntilsAre s
     pub aborted : AreAborted s
 
-  -- of each thread, what is still to be shown: that it has noted the cell in which it begins to wait, and that the cell has a place for each thread; and that it
-  -- has no note where a step leaves it at rest
-  pub record ToShow (s : State) (how : Leaves f m e s) (t : ℕ) (few : t < THREADS) : Type 0 where
-    pub noted : (c : ℕ) → c < ROWS + 2 → Begun f m e t c → (word f t).note ≡ Some (cell_site c)
-    pub long : (x : ℕ) → x < ROWS + 2 → Begun f m e t x → length (notes_in f x) ≡ THREADS
-    pub rest : Rests f m e law t few s how → (word f t).note ≡ None
-
   -- the relation holds after the step
   pub related : OwnRows f.image → InDomains f m → Suits f m → IsLawful m.image → AreProper m.image m → DuesKnown m → NamesHeld m → GivesHeld m → MovesIn m (length f.image.domains) → AreQueues m
-      → (s : State) (how : Leaves f m e s) → HasStep f m e s how → Goes m e s → RestsHoldNothing s → DuesKnown s → AreKnown s → ((t : ℕ) → (l : t < THREADS) → ToShow s how t l) → Rel later s
-  related own all suits lawful proper before names gives moves queues s how has goes rests after known more =
+      → (s : State) (how : Leaves f m e s) → HasStep f m e s how → Goes m e s → RestsHoldNothing s → DuesKnown s → AreKnown s → Rel later s
+  related own all suits lawful proper before names gives moves queues s how has goes rests after known =
       record {
         image = image-part s how;
         sorts = sorts-kept f.image f.sites e law.rel.sorts;
@@ -153,7 +147,16 @@ module _ (f : Fine) (m : State) (e : FineStep) (law : Lawful f m e) where
               told = told;
               held = held-part f m e law t l;
               ready = ready-part f m e law suits.tells t l;
-              note = record { there = note-there f m e law s how t l; number = note-number f m e law s how t l; cell = note-cell f m e law t l; waits = waits-noted f m e law suits.waits t l s how (more t l).noted; kept = notes-held f m e law suits.waits t l s how (λ x c inside new lies. notes-begun f m e law suits.waits t l s how x c new ((more t l).noted x inside new) ((more t l).long x inside new) lies); rest = notes-at-rest f m e law t l s how (more t l).rest };
+              note =
+                  let noted = begun-noted f m e law t l in
+                  record {
+                    there = note-there f m e law s how t l;
+                    number = note-number f m e law s how t l;
+                    cell = note-cell f m e law t l;
+                    waits = waits-noted f m e law suits.waits t l s how (λ x inside. noted x);
+                    kept = notes-held f m e law suits.waits t l s how (λ x c inside new lies. notes-begun f m e law suits.waits t l s how x c new (noted x new) (law.rel.notes.places x inside) lies);
+                    call = note-call f m e law t l suits all known.timed s how has;
+                  };
               cut = cut-part f m e law s how t l known.tells known.aborted told;
               cut_comes = cut-comes-part f m e law known.holding suits.waits t l s how;
               looks = looks-part f m e law s how t l;
@@ -197,6 +200,7 @@ module _ (f : Fine) (m : State) (e : FineStep) (law : Lawful f m e) where
         memory = memory-part f m e law all s how;
         heap = heap-part f m e law s how;
         joins = joins-part f m e law s how;
+        notes = notes-part f m e law s how;
         clock = clock-part f m e law s how;
         owed = owed-part f m e law;
         marks = marks-part f m e law suits.tells known.timed s how;
@@ -238,7 +242,7 @@ kept-step image cpus described known ps ss m e rel reach by taken =
       state = next.state;
       leaves = next.leaves;
       goes = next.goes;
-      related = related f m e law own all suits lawful proper before (names-known image cpus described known m reach) (gives-known image cpus described known m reach) moves queues next.state next.leaves next.has next.goes rests after facts ?more;
+      related = related f m e law own all suits lawful proper before (names-known image cpus described known m reach) (gives-known image cpus described known m reach) moves queues next.state next.leaves next.has next.goes rests after facts;
     }
 
 -- Every lawful step keeps the relation with a state that a run of a described image reaches.

@@ -14,6 +14,7 @@ use Rattle.um_refinement.specs.Fine.{joins, thread_state}
 use Rattle.um_refinement.specs.Stops.{is_rouse}
 use Rattle.um_refinement.proofs.Erased.{around}
 use Rattle.um_refinement.proofs.Leaves.{Beside, Lawful, Leaves, beside as beside_it, cleans, cuts, drops, event, expires, leaves as leaves_it, nothing, passes, recycles, resumes, ticks, times_out}
+use Rattle.um_refinement.proofs.NoteFacts.{rests-unnoted}
 use Rattle.um_refinement.proofs.Offered.{IsStep, Shows, either-act, own-unless, shown-on, shows-runs, site-is}
 use Rattle.um_refinement.proofs.PartsElsewhere.{starts-apart}
 use Rattle.um_refinement.proofs.PlacesFacts.{lies-unslept}
@@ -102,7 +103,7 @@ module _ (f : Fine) (m : State) (e : FineStep) (law : Lawful f m e) (t : ℕ) (f
     unnoted : (word f t).note ≡ None
     unnoted =
         let is = law.rel.contexts.asleep t c here in
-        (law.rel.threads t few).note.rest (subst (λ n. (thread_at m n).pending ≡ []) is.1 (sym (ap (λ (z : Thread). z.pending) (own-unless is.0 (ap waits is.3))) ∙ is.3))
+        rests-unnoted f m t (law.rel.threads t few).note (subst (λ n. (thread_at m n).pending ≡ []) is.1 (sym (ap (λ (z : Thread). z.pending) (own-unless is.0 (ap waits is.3))) ∙ is.3))
 
     -- its own processor makes no event meanwhile
     not-mine : (q : Pending) (rest : Steps) (todo : Todos) → Shows f m e.cpu e q rest todo → p.context.thread ≡ t → ⊥

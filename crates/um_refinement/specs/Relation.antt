@@ -16,7 +16,7 @@ use Rattle.um_refinement.specs.Dues.{DuesAre}
 use Rattle.um_refinement.specs.Looks.{LooksAre}
 use Rattle.um_refinement.specs.Frames.{AreFramed}
 use Rattle.um_refinement.specs.Offers.{ListIs}
-use Rattle.um_refinement.specs.Stops.{CutComes, CutIs, JoinsAre, LookThere, LooksFit, NoteIs, ShutIs, SleepIs}
+use Rattle.um_refinement.specs.Stops.{CutComes, CutIs, JoinsAre, LookThere, LooksFit, NoteIs, NotesAre, ShutIs, SleepIs}
 use Rattle.um_refinement.specs.Timing.{ClockIs, ExpiryComes, IsUnarmed, MarksAre, OwedIs, TimeoutComes, TimerIs}
 use Rattle.um_refinement.specs.Domains.{DomainIs, TableIs}
 use Rattle.um_refinement.specs.Resources.{HeapIs, MemoryIs}
@@ -75,6 +75,7 @@ pub record Rel (f : Fine) (m : State) : Type 0 where
   pub memory : MemoryIs f m
   pub heap : HeapIs f m
   pub joins : JoinsAre f m
+  pub notes : NotesAre f
   pub clock : ClockIs f m
   pub owed : OwedIs f
   pub marks : MarksAre f

@@ -6,11 +6,12 @@ use Rattle.um_base.specs.declared.image.Image.{Image}
 use Rattle.um_base.specs.Places.{own_row, thread_of_row}
 use Rattle.um_machine.specs.declared.pending.Pending.{Pending}
 use Rattle.um_machine.specs.declared.thread.Life.{Life}
+use Rattle.um_machine.specs.Order.{Steps}
 use Rattle.um_machine.specs.State.{State, thread_at, waiters_in}
 use Rattle.um_fine.specs.Context.{Context}
 use Rattle.um_fine.specs.Addresses.{row_named}
 use Rattle.um_fine.specs.Joins.{asleep_at, is_joined, is_shut}
-use Rattle.um_fine.specs.Places.{Todo, Todos}
+use Rattle.um_fine.specs.Places.{Todo, Todos, noted_cell}
 use Rattle.um_fine.specs.Processor.{Processor}
 use Rattle.um_fine.specs.Scheduler.{parked_at}
 use Rattle.um_fine.specs.Seeking.{stands_in}
@@ -61,15 +62,45 @@ pub data LiesAt (f : Fine) (t : ℕ) : Context → Type 0 where
   parked : (c : Context) → parked_at (scheduler f) t ≡ Some c → LiesAt f t c
   asleep : (c : Context) → asleep_at (joins f) t ≡ Some c → LiesAt f t c
 
+-- from here on a call makes no act and arms no deadline, and it ends
+abbrev pub Ends : Steps → Type 0
+Ends [] = ⊥
+Ends (Pending.Begin ∷ rest) = ⊥
+Ends (Pending.Exit ∷ rest) = ⊥
+Ends (Pending.Work a ask ∷ rest) = ⊥
+Ends (Pending.Join who timeout ∷ rest) = ⊥
+Ends (Pending.FutexWait a value timeout ∷ rest) = ⊥
+Ends (Pending.Arm ticks ∷ rest) = ⊥
+Ends (Pending.ArmTimer ticks ∷ rest) = ⊥
+Ends (Pending.Dooms from ∷ rest) = ⊥
+Ends (Pending.EnterUser script ∷ rest) = ⊥
+Ends (Pending.Answer reply to ∷ rest) = rest ≡ []
+Ends (Pending.Fatal reason cause ∷ rest) = Unit {0}
+Ends (Pending.Killed ∷ rest) = Unit {0}
+Ends (q ∷ rest) = Ends rest
+
+-- the next step but a visit, or the arming of a deadline, is an act that may wait in the cell of this site, and behind it the call ends
+abbrev pub ActsIn : Image → ℕ → Steps → Type 0
+ActsIn image site [] = ⊥
+ActsIn image site (Pending.Inherit who ∷ rest) = ActsIn image site rest
+ActsIn image site (Pending.Drops from ∷ rest) = ActsIn image site rest
+ActsIn image site (Pending.Arm ticks ∷ rest) = ActsIn image site rest
+ActsIn image site (q ∷ rest) = (noted_cell image (q ∷ []) ≡ Some site) × Ends rest
+
+-- what is left of a call that has noted the cell of this site: it makes its act next, and that in this cell, or has made it
+abbrev pub HasNoted : Image → ℕ → Steps → Type 0
+HasNoted image site steps = Ends steps ⊎ ActsIn image site steps
+
 -- The word of a thread has a note exactly while its own part has the number of one; that number is one of the word's, and the site that of a
--- cell in which threads wait. A thread that waits is noted at its cell, which keeps that number. One at rest has no note.
+-- cell in which threads wait. A thread that waits is noted at its cell, which keeps that number. One with a note is in a call that has noted
+-- that cell: so one at rest has none.
 pub record NoteIs (f : Fine) (m : State) (t : ℕ) : Type 0 where
   pub there : (c : Context) → LiesAt f t c → is_some (word f t).note ≡ is_some c.noted
   pub number : (c : Context) (n : ℕ) → LiesAt f t c → c.noted ≡ Some n → n ≤ (word f t).number
   pub cell : (site : ℕ) → (word f t).note ≡ Some site → is_waiting_site site ≡ true
   pub waits : (c : ℕ) → c < ROWS + 2 → waits_at m t c ≡ true → (word f t).note ≡ Some (cell_site c)
   pub kept : (x : ℕ) (c : Context) → x < ROWS + 2 → waits_at m t x ≡ true → LiesAt f t c → c.noted ≡ Some (noted_at f x t)
-  pub rest : (thread_at m t).pending ≡ [] → (word f t).note ≡ None
+  pub call : (site : ℕ) → (word f t).note ≡ Some site → HasNoted f.image site (thread_at m t).pending
 
 -- That a thread was cut and isn't taken yet stands in one place at most. Then the machine has nothing left of it but that it is killed,
 -- and nobody tells it anything. Who is to be killed so is aborted.
@@ -164,3 +195,7 @@ pub record JoinsAre (f : Fine) (m : State) : Type 0 where
   pub waiters : (joins f).waiters ≡ m.joins
   pub shut : length (joins f).shut ≡ THREADS
   pub asleep : length (joins f).asleep ≡ THREADS
+
+-- Each cell in which threads wait has a place for the number of a note of each thread index.
+pub record NotesAre (f : Fine) : Type 0 where
+  pub places : (c : ℕ) → c < ROWS + 2 → length (notes_in f c) ≡ THREADS
