@@ -9,14 +9,17 @@ use Rattle.um_fine.specs.Processor.{Processor}
 use Rattle.um_fine.specs.Sites.{SiteMay, SiteState, s_next}
 use Rattle.um_fine.specs.Steps.{FineStep, Site}
 use Rattle.um_fine_measure.specs.Measure.{processor_cost, site_cost}
-use Rattle.um_fine_measure.specs.Ready.{MayStep}
+use Rattle.um_fine_measure.specs.Ready.{AreCut, MayStep}
+use Rattle.um_fine_measure.specs.Whole.{got_by, paid_by}
 
 -- at the opening the scheduler has the weight left at most, and no other site has anything
 pub record Opens (image : Image) : Type 0 where
   pub scheduler : site_cost image (s_start image Site.scheduler) ≤ weight image
   pub others : (site : Site) → site ≢ Site.scheduler → site_cost image (s_start image site) ≡ 0
 
--- a lawful step of a processor that may make it lowers what the processor and its site have left, by one at least
+-- a lawful step of a processor that may make it lowers what the processor and its site have left, by one at least, but for what it adds to what all
+-- have left together, and takes of that
 abbrev pub Falls : Image → Type 0
-Falls image = (p : Processor) (s : SiteState) (e : FineStep) → CpuMay image p e → SiteMay image s e → MayStep image p e.moved p.todo
-    → processor_cost image (p_next image p e) + site_cost image (s_next image s e) + 1 ≤ processor_cost image p + site_cost image s
+Falls image = (p : Processor) (s : SiteState) (e : FineStep) → CpuMay image p e → SiteMay image s e → AreCut s → MayStep image p e.act e.moved p.todo
+    → processor_cost image (p_next image p e) + site_cost image (s_next image s e) + paid_by e.act + 1
+    ≤ processor_cost image p + site_cost image s + got_by p.todo e
