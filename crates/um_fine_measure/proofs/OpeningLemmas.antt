@@ -142,6 +142,8 @@ module _ (image : Image) where
       omega (arith, none)
   others-start lawful (Site.parts d) = refl
   others-start lawful Site.memory = refl
+  others-start lawful Site.clock = refl
+  others-start lawful Site.joins = let none = total-replicate (place_cost image) None refl THREADS in omega (arith, none)
   others-start lawful Site.heap = refl
   others-start lawful Site.scheduler = tt
 

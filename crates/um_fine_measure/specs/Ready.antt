@@ -53,7 +53,7 @@ IsTaken steps = ⊥
 
 -- a processor without a thread, which has this own part, is given a mark that is due, lets time go on, or is given a thread
 abbrev pub IsTurn : Context → (due tick : Bool) → Exchange → Type 0
-IsTurn own true tick (Exchange.mark deadline mark) = own.claims ≡ []
+IsTurn own true false (Exchange.mark deadline mark) = own.claims ≡ []
 IsTurn own true tick moved = ⊥
 IsTurn own false true moved = Unit {0}
 IsTurn own false false (Exchange.thread c None) = IsTaken c.pending
