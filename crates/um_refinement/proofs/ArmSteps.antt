@@ -1,6 +1,6 @@
 -- Deadlines of calls: a call arms one right before the act that it is for, and behind that act it makes no other before it ends. So where its last step
 -- armed none, none is armed for the step that it makes next.
-use Rattle.um_refinement.proofs.Words.{◌≡◌, ◌⊎◌, inl, inr, ℕ, Bool, true, false, [], ◌∷◌, ◌++◌, Option, Some, None, refl, sym, ap, subst, ◌==◌, ◌||◌, ℤ, if◌then◌else◌, nat_lt, Cause, Ask, Image, Instr, Options, Errno, Kind, Mode, ThreadIx, Pending, Thread, Steps, answer_error, answer_zero, buffered, creates, privileged, steps_of, to_addr, to_thread, work, HoldsOfWays}
+use Rattle.um_refinement.proofs.Words.{◌≡◌, ◌⊎◌, inl, inr, ℕ, Bool, true, false, [], ◌∷◌, ◌++◌, Option, Some, None, refl, ◌==◌, ℤ, if◌then◌else◌, Cause, Ask, Image, Instr, Options, Errno, Kind, Mode, ThreadIx, Pending, Thread, Steps, answer_error, answer_zero, buffered, creates, privileged, steps_of, to_addr, to_thread, work, HoldsOfWays}
 use Rattle.um_base.specs.declared.names.Timeout.{Timeout}
 use Rattle.um_machine.specs.Order.{aborts, answer_void, arms}
 use Rattle.um_fine.specs.Places.{is_timer_start}

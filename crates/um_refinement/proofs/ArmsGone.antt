@@ -1,5 +1,5 @@
 -- Own parts and deadlines: after an event no deadline is armed for a thread's next step, unless that event armed one for the act that comes next.
-use Rattle.um_refinement.proofs.Words.{◌≡◌, ◌⊎◌, inl, inr, ℕ, ◌+◌, Bool, true, false, List, [], ◌∷◌, Option, Some, None, refl, sym, ap, ◌∙◌, subst, if◌then◌else◌, nat_lt, not, not-true, false≢true, true≢false, Act, Ask, Image, Instr, Addr, Told, THREADS, Pending, Steps, Change, Next, Way, told_way, steps_by, way-left, Context, as_thread, came_in, changed_part, continues, gone_part, resumed, resumed_at, Exchange, IsOffered, IsPutBack, IsTrue}
+use Rattle.um_refinement.proofs.Words.{◌≡◌, inl, inr, ℕ, ◌+◌, Bool, true, false, List, [], ◌∷◌, Option, Some, None, refl, sym, ap, subst, nat_lt, not, not-true, false≢true, true≢false, Act, Ask, Image, Addr, Told, THREADS, Pending, Steps, Change, Next, Way, told_way, steps_by, way-left, Context, as_thread, came_in, changed_part, continues, gone_part, resumed, resumed_at, Exchange, IsOffered, IsPutBack, IsTrue}
 use Rattle.um_machine.specs.Table as T
 use Rattle.um_fine.specs.Continues.{goes_on}
 use Rattle.um_fine.specs.Places.{armed_for, is_timer_start}
@@ -9,7 +9,7 @@ use Rattle.um_refinement.specs.Lists.{is_arm}
 use Rattle.um_refinement.specs.Offers as O
 use Rattle.um_refinement.specs.Timing.{armed_next, armed_step, is_act}
 use Rattle.um_refinement.proofs.Offered.{NotKilled}
-use Rattle.um_refinement.proofs.ArmSteps.{Acts, Calm, Timed, Unarmed, calm-steps, unarmed-ways}
+use Rattle.um_refinement.proofs.ArmSteps.{Acts, Timed, Unarmed, calm-steps, unarmed-ways}
 use Rattle.um_refinement.proofs.ArmsKnown.{Fits, GoesOn, Stands, arms, at-rest, dooms-calm, ends-calm, fits, keeps, keeps-if, keeps-reserve, keeps-text, keeps-work, passed-drops, passed-inherit, sets_until, stands}
 
 module _ (image : Image) where

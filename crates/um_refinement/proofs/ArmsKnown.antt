@@ -1,13 +1,12 @@
 -- In every state that a run reaches, the steps that are left of each thread's call stand to its deadline as those of its line do: each step of the machine
 -- keeps that.
 use Rattle.um_base.specs.declared.names.Timeout.{Timeout}
-use Rattle.um_refinement.proofs.Words.{Act, Reply, ThreadIx, ◌≡◌, ◌⊎◌, inl, inr, ℕ, ◌+◌, Bool, true, false, List, [], ◌∷◌, Option, Some, None, refl, sym, ap, ◌∙◌, subst, if◌then◌else◌, nat_lt, false≢true, true≢false, Ask, THREADS, Policy, Answer, Found, Addr, Image, Instr, Errno, Told, Event, Pending, Thread, Steps, Change, Next, Way, checked_way, told_way, end_steps, fatal_steps, steps_by, way-left, instruction_at, nobody, opening, Offers, goes, skips_drops, skips_inherit, begins, exits, tends, Runs, State, thread_at, with_thread, Ignores, all_other, each-after, next_of, gone, at_set, text_change, work_change}
+use Rattle.um_refinement.proofs.Words.{Act, Reply, ThreadIx, ◌≡◌, ◌⊎◌, inl, inr, ℕ, ◌+◌, Bool, true, false, List, [], ◌∷◌, Option, Some, None, refl, sym, ◌∙◌, subst, if◌then◌else◌, nat_lt, false≢true, true≢false, Ask, THREADS, Policy, Answer, Found, Addr, Image, Event, Pending, Thread, Steps, Change, Next, Way, told_way, fatal_steps, steps_by, way-left, nobody, opening, Offers, goes, skips_drops, skips_inherit, begins, exits, tends, Runs, State, thread_at, with_thread, Ignores, all_other, each-after, next_of, gone, at_set, text_change, work_change}
 use Rattle.um_machine.specs.Goes as G
 use Rattle.um_machine.specs.Goes.{reserve_change}
 use Rattle.um_machine.specs.Order.{to_deadline}
 use Rattle.um_machine.specs.Run.{stops, leaves}
 use Rattle.um_machine.specs.Table as T
-use Rattle.um_machine.specs.Writes.{cut}
 use Rattle.um_refinement.specs.Stops.{Ends}
 use Rattle.um_refinement.proofs.ArmSteps.{Acts, Calm, StartsTimer, Timed, Unarmed, Waiting, calm-steps, waiting-acts, rests-unarmed, unarmed-ways}
 use Rattle.um_refinement.proofs.Erased.{IsReachable}

@@ -1,5 +1,5 @@
 -- The bounds are kept by every lawful step.
-use Rattle.um_refinement.proofs.Words.{Act, Errno, FineAct, Unseen, MayChoose, IsOffered, Waiter, filter, map, in_order, by_me, context_in, goes_on_by, not, scheduler, one_if, is_some, thread_in, unwrap_or, waits, at_set, slice_set, ◌+◌, ◌&&◌, is_empty, ◌≡◌, inl, inr, ℕ, zero, suc, ◌<◌, ◌≤◌, Bool, true, false, cond, List, [], ◌∷◌, ◌++◌, length, Option, Some, None, refl, sym, ap, ◌∙◌, subst, arith, eq-eqb, ◌==◌, ◌||◌, if◌then◌else◌, nat_lt, slice_index_or, list_all, and_from, and_parts, eqb-true, false≢true, lt-ltb, true≢false, or-true, Ask, Told, Image, THREADS, Addr, ThreadIx, IsLawful, row_at, Pending, Thread, has_kind, verdict, Steps, to_thread, is_empty, State, nobody, object_at, thread_at, IsSited, row_kind, passed, AreKept, are_orderly, is_resume, act_in, is_visit, outcome_in, verdict_in, begins_cleaning, says, says_idle, Context, after_show, after_take, p_next, outcome_of, Todo, Todos, Processor, Exchange, FineStep, Fine, AreFramed, Adds, counted, has_steps, is_end_call, runs, Fits, behind_shown, is_over, Rel, IsOf, kind_is, row_has, served, IsServed, numbers}
+use Rattle.um_refinement.proofs.Words.{Act, Errno, FineAct, Unseen, MayChoose, IsOffered, Waiter, filter, map, in_order, by_me, context_in, goes_on_by, not, scheduler, one_if, is_some, thread_in, unwrap_or, waits, at_set, slice_set, ◌+◌, ◌&&◌, is_empty, ◌≡◌, inl, inr, ℕ, zero, suc, ◌<◌, ◌≤◌, Bool, true, false, cond, List, [], ◌∷◌, ◌++◌, length, Option, Some, None, refl, sym, ap, ◌∙◌, subst, arith, eq-eqb, ◌==◌, ◌||◌, if◌then◌else◌, nat_lt, slice_index_or, list_all, and_from, and_parts, eqb-true, false≢true, lt-ltb, true≢false, Ask, Told, Image, THREADS, Addr, ThreadIx, IsLawful, row_at, Pending, Thread, has_kind, verdict, Steps, to_thread, is_empty, State, nobody, object_at, thread_at, IsSited, row_kind, passed, AreKept, are_orderly, is_resume, act_in, is_visit, outcome_in, verdict_in, begins_cleaning, says, Context, after_show, after_take, p_next, outcome_of, Todo, Todos, Processor, Exchange, FineStep, Fine, AreFramed, Adds, counted, has_steps, is_end_call, runs, Fits, behind_shown, is_over, Rel, IsOf, kind_is, row_has, served, IsServed}
 use Rattle.um_base.specs.declared.names.Reply.{Reply}
 use Rattle.um_machine.specs.Futexes.{futex_refusal, futex_woken, is_on, roused}
 use Rattle.um_machine.specs.Joins.{all_joined, joins as joins_on}
@@ -34,12 +34,11 @@ use Rattle.um_refinement.proofs.SearchSteps.{cut-chosen, expire-says}
 use Rattle.um_refinement.proofs.ToldBeside.{out-back, told-back}
 use Rattle.um_refinement.proofs.ToldPart.{few-of}
 use Rattle.um_refinement.proofs.ToldSteps.{wakers-now}
-use Rattle.um_invariants.specs.Lines.{stands}
 use Rattle.um_refinement.proofs.Bounds.{AreBounded, AreThreads}
 use Rattle.um_refinement.proofs.CallBounds.{Bounded, bounded-few}
 use Rattle.um_refinement.proofs.CallBoundsKept.{IsBounded, Makes, Passes, continues-bounded, drops-bounded, newborn-bounded, offered-makes, resumes-bounded}
 use Rattle.um_refinement.proofs.CallsKnown.{RestsHoldNothing}
-use Rattle.um_refinement.proofs.ContextsPart.{flags-none, is_shown, is_sleep_step, now-context, quiet-context, ran, read-only, take-context}
+use Rattle.um_refinement.proofs.ContextsPart.{flags-none, is_shown, now-context, quiet-context, ran, read-only, take-context}
 use Rattle.um_refinement.proofs.Erased.{around}
 use Rattle.um_refinement.proofs.LawfulSteps.{Suits}
 use Rattle.um_refinement.proofs.Leaves.{Beside, Lawful, Leaves, beside, cleans, cuts, drops, event, expires, leaves as tells_left, nothing, passes, recycles, resumes, ticks as time_passes, times_out}

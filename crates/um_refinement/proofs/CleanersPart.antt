@@ -1,5 +1,5 @@
 -- An object that is gone and that nobody holds has exactly one processor that cleans it, after every lawful step.
-use Rattle.um_refinement.proofs.Words.{row_after, ◌≡◌, inl, inr, ℕ, zero, suc, ◌+◌, ◌<◌, ◌≤◌, Bool, true, false, [], ◌∷◌, Option, Some, None, refl, sym, ap, ◌∙◌, subst, arith, eq-eqb, List, ◌==◌, ◌&&◌, not, is_some, if◌then◌else◌, nat_lt, slice_index_or, slice_set, unwrap_or, and_parts, eqb-false, eqb-true, false≢true, true≢false, get_or-set_other, get_or-set_same, length-set, Act, Leftover, Image, ROWS, Errno, Kind, Mode, Want, Addr, ThreadIx, own_row, row_at, Object, Status, Pending, Refusal, Steps, to_thread, MayChoose, is_user, State, object_at, vacant, FineAct, More, Unseen, RowWord, Stage, after_verdict, verdict_of, has, is_cleaning, is_dying, is_free, is_live, row_after_act, address_of, row_named, verdict_in, act_in, is_visit, leftover_in, row_in, begins_cleaning, by_me, says_idle, says_show, shows, site_at, Todo, Todos, Processor, same_site, Exchange, FineStep, Site, same-sound, AreBlocks, CleanersAre, Fine, one_if, row, counted, is_recycle, is_vacate, recyclers, vacaters, allows, says_step, fits_kind, length}
+use Rattle.um_refinement.proofs.Words.{row_after, ◌≡◌, inl, inr, ℕ, zero, suc, ◌+◌, ◌<◌, ◌≤◌, Bool, true, false, [], ◌∷◌, Option, Some, None, refl, sym, ap, ◌∙◌, subst, arith, eq-eqb, List, ◌==◌, ◌&&◌, not, is_some, if◌then◌else◌, nat_lt, slice_index_or, slice_set, unwrap_or, and_parts, eqb-false, eqb-true, false≢true, true≢false, get_or-set_other, get_or-set_same, length-set, Act, Leftover, Image, ROWS, Errno, Kind, Mode, Want, Addr, ThreadIx, own_row, row_at, Object, Status, Pending, Refusal, Steps, to_thread, MayChoose, is_user, State, object_at, vacant, FineAct, More, Unseen, RowWord, Stage, after_verdict, verdict_of, has, is_cleaning, is_dying, is_free, is_live, row_after_act, address_of, row_named, verdict_in, act_in, is_visit, leftover_in, row_in, begins_cleaning, by_me, says_show, shows, site_at, Todo, Todos, Processor, same_site, FineStep, Site, same-sound, AreBlocks, CleanersAre, Fine, one_if, row, counted, is_recycle, is_vacate, recyclers, vacaters, allows, says_step, fits_kind, length}
 use Rattle.um_machine.specs.Objects as Plain
 use Rattle.um_machine.specs.Table as T
 use Rattle.um_machine.specs.State.{thread_at}

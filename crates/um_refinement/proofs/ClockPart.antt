@@ -1,10 +1,10 @@
 -- The clock has the machine's time and deadlines, after every lawful step.
-use Rattle.um_refinement.proofs.Words.{◌≡◌, ℕ, ◌+◌, Bool, true, false, List, [], ◌∷◌, ◌++◌, Some, Option, None, refl, sym, ap, ◌∙◌, false≢true, unwrap_or, Act, ThreadIx, Pending, Steps, State, thread_at, FineAct, More, Unseen, Event, to_thread, act_in, says_step, Exchange, FineStep, Site, Fine, Todo, Todos, same_site, same-sound}
+use Rattle.um_refinement.proofs.Words.{◌≡◌, ℕ, Bool, true, false, [], ◌∷◌, ◌++◌, Some, Option, None, refl, sym, ap, ◌∙◌, false≢true, unwrap_or, Act, Pending, Steps, State, thread_at, FineAct, More, Unseen, to_thread, act_in, says_step, Exchange, FineStep, Site, Fine, Todo, Todos, same_site, same-sound}
 use Rattle.um_machine.specs.Table as T
 use Rattle.um_machine.specs.Time.{next_deadline}
 use Rattle.um_fine.specs.Answers.{deadline_in, due_in, is_tick, mark_in}
 use Rattle.um_fine.specs.Asks.{by_actor, says_turn}
-use Rattle.um_fine.specs.Clock.{Clock, Marked, clock_after, deadlines, later as next_time}
+use Rattle.um_fine.specs.Clock.{Clock, clock_after, deadlines}
 use Rattle.um_refinement.specs.Fine.{clock}
 use Rattle.um_refinement.specs.Lists.{is_arm}
 use Rattle.um_refinement.specs.Timing.{ClockIs}

@@ -1,7 +1,7 @@
 -- The clock after a lawful step: which steps leave it, and what it keeps then.
-use Rattle.um_refinement.proofs.Words.{◌≡◌, ℕ, Bool, true, false, cond, Option, Some, None, ◌∷◌, refl, sym, ap, ◌∙◌, subst, ◌&&◌, nat_lt, and_parts, false≢true, if◌then◌else◌, Image, row_at, Pending, State, FineAct, check_site, site_at, site_of_step, Cell, Todo, Todos, Processor, fails, SiteState, s_next, same_site, site_after, site_answers, site_takes, FineStep, Site, same-itself, Fine}
+use Rattle.um_refinement.proofs.Words.{◌≡◌, ℕ, Bool, true, false, cond, Option, Some, None, ◌∷◌, refl, sym, ap, ◌∙◌, subst, false≢true, if◌then◌else◌, Image, row_at, Pending, State, FineAct, check_site, site_at, site_of_step, Cell, Todo, Todos, Processor, fails, SiteState, s_next, same_site, site_after, site_answers, FineStep, Site, same-itself, Fine}
 use Rattle.um_words.specs.declared.fine.Mark.{Mark}
-use Rattle.um_fine.specs.Clock.{Clock, clock_after, clock_says, clock_takes}
+use Rattle.um_fine.specs.Clock.{clock_after, clock_says}
 use Rattle.um_refinement.specs.Fine.{clock, clock_state}
 use Rattle.um_refinement.proofs.DomainReads.{IsPlaced}
 use Rattle.um_refinement.proofs.Erased.{around}

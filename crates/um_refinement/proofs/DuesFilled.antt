@@ -1,6 +1,6 @@
 -- Where a thread's next step is expanded, what is due of it isn't visited yet; and what a thread goes on with after an event is no visit, or
 -- begins one at a row that there is.
-use Rattle.um_refinement.proofs.Words.{◌≡◌, ◌⊎◌, inl, inr, ℕ, ◌+◌, ◌<◌, ◌≤◌, Bool, true, false, List, [], ◌∷◌, Option, Some, None, refl, sym, ap, ◌∙◌, subst, arith, eq-eqb, eq-or-lt_of_le, ◌==◌, if◌then◌else◌, nat_lt, and_parts, eqb-true, false≢true, true≢false, Act, Image, Instr, ROWS, THREADS, Mode, Policy, ThreadIx, IsLawful, own_row, Pending, Thread, Next, Way, steps_by, told_way, Steps, fatal_steps, privileged, steps_of, Offers, begins, exits, goes, skips_drops, skips_inherit, State, pair_at, thread_at, HoldsOfWays, way-left, claims, Call, call_is, real-below, AreKept, are_orderly, Context, as_thread, came_in, continues, gone_part, but, fine_steps, next_steps, Exchange, is_visiting, has_steps, visited, behind_shown, DueFrom, MayPass, are_plain, clears_one, starts_one, tends, Todos, FineStep, Answer, act_in, answer_in}
+use Rattle.um_refinement.proofs.Words.{◌≡◌, ◌⊎◌, inl, inr, ℕ, ◌+◌, ◌<◌, ◌≤◌, Bool, true, false, List, [], ◌∷◌, Option, Some, None, refl, sym, ap, ◌∙◌, subst, arith, eq-eqb, eq-or-lt_of_le, ◌==◌, if◌then◌else◌, nat_lt, and_parts, eqb-true, false≢true, true≢false, Act, Image, Instr, ROWS, THREADS, Mode, Policy, ThreadIx, IsLawful, own_row, Pending, Thread, Next, Way, steps_by, told_way, Steps, fatal_steps, privileged, steps_of, Offers, begins, exits, goes, skips_drops, skips_inherit, State, pair_at, thread_at, way-left, claims, Call, call_is, real-below, AreKept, are_orderly, Context, as_thread, came_in, continues, gone_part, but, fine_steps, next_steps, Exchange, is_visiting, has_steps, visited, behind_shown, DueFrom, MayPass, are_plain, clears_one, starts_one, tends, Todos, FineStep, Answer, act_in, answer_in}
 use Rattle.um_base.specs.declared.names.Timeout.{Timeout}
 use Rattle.um_machine.specs.Order.{arms}
 use Rattle.um_machine.specs.Run.{leaves, stops}

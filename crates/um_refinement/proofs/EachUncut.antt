@@ -1,5 +1,5 @@
 -- A fact of what is read of each thread is kept by a step that cuts nobody, where it holds of a thread that is started, and of the one that goes on.
-use Rattle.um_refinement.proofs.Words.{◌≡◌, ℕ, ℤ, true, false, Bool, List, [], ◌∷◌, Option, refl, subst, sym, and_parts, list_all, true≢false, Told, Mode, Row, ThreadIx, Pending, Steps, Thread, Effect, wrote, gone, State, thread_at, Ignores, OfEach, all_other, effects_of, key-same, keys-wrote, next_of, is_spared, image-wrote, after-is}
+use Rattle.um_refinement.proofs.Words.{◌≡◌, ℕ, ℤ, true, Bool, List, [], ◌∷◌, refl, subst, sym, and_parts, list_all, true≢false, Mode, Row, ThreadIx, Pending, Steps, Thread, Effect, wrote, gone, State, thread_at, Ignores, OfEach, all_other, effects_of, key-same, keys-wrote, next_of, is_spared, image-wrote, after-is}
 use Rattle.um_machine.specs.Table as T
 use Rattle.um_machine.proofs.EffectLemmas.{Each, Passes, Starts, each-went, each-wrote}
 

@@ -1,6 +1,6 @@
 -- The pairs that a processor has visited of a thread whose object it cleans stay gone, after every lawful step: nobody gives that thread a
 -- permission, since nobody holds its object.
-use Rattle.um_refinement.proofs.Words.{waits, runs, MayChoose, is_started, IsTrue, ◌≡◌, ◌⊎◌, inl, inr, ℕ, zero, suc, ◌+◌, ◌<◌, ◌≤◌, Bool, true, false, cond, List, [], ◌∷◌, Some, refl, sym, ap, ◌∙◌, subst, arith, eq-eqb, eq-or-lt_of_le, ◌==◌, ◌&&◌, not, if◌then◌else◌, nat_lt, slice_index_or, slice_set, list_all, and_parts, eqb-false, eqb-true, false≢true, ltb-true, not-true, true≢false, nat_tests, Leftover, Image, ROWS, THREADS, Addr, ThreadIx, own_row, thread_of_row, Status, Pending, Thread, Steps, to_thread, Offers, begins, exits, goes, skips_drops, skips_inherit, is_empty, State, object_at, pair_at, thread_at, with_object, claims, Call, at_set, call_at, call_is, core_of, status_is, IsStatic, IsKnown, FineAct, Unseen, RowWord, has, is_dying, row_in, begins_cleaning, fits, Context, goes_on_by, p_next, row_number, with_cleaned, Todo, Todos, cleaning, with_cleaning, Processor, same_site, FineStep, Site, AreBlocks, Cleans, Fine, one_if, row, cleaned_pairs, counted, has_steps, is_recycle, names_row, recyclers, Fits, Passes, is_over, keeps_now, fits_visit, clean_pairs, IsEmptied, tends}
+use Rattle.um_refinement.proofs.Words.{waits, runs, ◌≡◌, ◌⊎◌, inl, inr, ℕ, zero, suc, ◌+◌, ◌<◌, ◌≤◌, Bool, true, false, cond, List, [], ◌∷◌, Some, refl, sym, ap, ◌∙◌, subst, arith, eq-eqb, eq-or-lt_of_le, ◌==◌, ◌&&◌, not, if◌then◌else◌, nat_lt, slice_index_or, slice_set, list_all, and_parts, eqb-false, eqb-true, false≢true, ltb-true, not-true, true≢false, nat_tests, Leftover, Image, ROWS, THREADS, Addr, ThreadIx, own_row, thread_of_row, Status, Pending, Thread, Steps, to_thread, Offers, begins, exits, goes, skips_drops, skips_inherit, is_empty, State, object_at, pair_at, thread_at, with_object, claims, Call, at_set, call_at, call_is, core_of, status_is, IsStatic, IsKnown, FineAct, Unseen, RowWord, has, is_dying, row_in, begins_cleaning, fits, Context, goes_on_by, p_next, row_number, with_cleaned, Todo, Todos, cleaning, with_cleaning, Processor, same_site, FineStep, Site, AreBlocks, Cleans, Fine, one_if, row, cleaned_pairs, counted, is_recycle, names_row, recyclers, Fits, Passes, is_over, keeps_now, fits_visit, clean_pairs, IsEmptied, tends}
 use Rattle.um_words.specs.declared.fine.Mark.{Mark}
 use Rattle.um_machine.specs.Run.{stops}
 use Rattle.um_machine.specs.Run as Run

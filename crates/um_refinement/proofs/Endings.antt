@@ -1,5 +1,5 @@
 -- What a thread does after its end: only the steps of that are left, none of which holds it.
-use Rattle.um_refinement.proofs.Words.{◌≡◌, ℕ, ◌+◌, Bool, true, false, [], ◌∷◌, Some, None, refl, sym, ap, ◌∙◌, subst, if◌then◌else◌, nat_lt, list_all, and_parts, false≢true, true≢false, Act, Image, Policy, THREADS, Pending, Steps, fatal_steps, act_in, is_visit, is_word_read, verdict_in, row_named, begins_cleaning, Context, as_thread, continues, after_show, dropped_at, goes_on_by, p_next, Todo, Todos, Processor, Exchange, FineStep, Fits, IsOffered, behind_shown, next_doom, is_ending, FineAct, thread_in, is_empty, turn, refilled_by, after_take}
+use Rattle.um_refinement.proofs.Words.{◌≡◌, ℕ, ◌+◌, Bool, true, false, [], ◌∷◌, Some, None, refl, sym, ap, ◌∙◌, subst, if◌then◌else◌, nat_lt, list_all, and_parts, false≢true, true≢false, Act, Image, Policy, THREADS, Pending, Steps, fatal_steps, act_in, is_visit, is_word_read, verdict_in, row_named, Context, as_thread, continues, after_show, dropped_at, goes_on_by, p_next, Todo, Todos, Processor, Exchange, FineStep, Fits, IsOffered, behind_shown, next_doom, is_ending, FineAct, thread_in, is_empty, turn, refilled_by, after_take}
 use Rattle.um_fine.specs.Answers.{is_killed}
 use Rattle.um_fine.specs.Follows.{shown_step}
 use Rattle.um_fine.specs.Places.{put_away}

@@ -1,6 +1,6 @@
 -- A timer that runs has a mark of its deadline, after every lawful step: where it starts, its caller's list has that mark to settle, and the mark stays
 -- until it is handled, which stops the timer.
-use Rattle.um_refinement.proofs.Words.{◌≡◌, ◌⊎◌, inl, inr, ℕ, zero, suc, ◌+◌, ◌<◌, ◌≤◌, Bool, true, false, List, [], ◌∷◌, ◌++◌, length, Option, Some, None, refl, sym, ap, ◌∙◌, subst, arith, ◌==◌, ◌&&◌, ◌||◌, not, if◌then◌else◌, is_some, list_all, nat_le, nat_lt, slice_index_or, slice_set, eqb-true, eq-eqb, and_from, and_parts, false≢true, true≢false, le-leb, ltb-true, Ask, Addr, Answer, Event, Image, Waiter, Row, ROWS, THREADS, Pending, Steps, Thread, to_thread, Act, Told, MayChoose, Next, State, vacant, object_at, thread_at, with_object, at_set, Effect, wrote, gone, effects_of, next_of, after-is, FineAct, Unseen, More, begins_cleaning, row_number, Context, waits, Exchange, FineStep, Site, SiteState, site_answers, Fine, Fits, Rel, Todo, Todos, Processor, address_of, act_in, woken_in, behind_shown, counted, is_recycle, is_wipe, one_if, over_processors, recyclers, wipers, row_named, unwrap_or}
+use Rattle.um_refinement.proofs.Words.{◌≡◌, ◌⊎◌, inl, inr, ℕ, zero, suc, ◌+◌, ◌<◌, Bool, true, false, List, [], ◌∷◌, length, Option, Some, None, refl, sym, ap, ◌∙◌, subst, arith, ◌==◌, ◌||◌, if◌then◌else◌, is_some, list_all, slice_index_or, slice_set, eqb-true, eq-eqb, and_from, and_parts, false≢true, true≢false, le-leb, Ask, Event, Waiter, ROWS, Pending, Steps, to_thread, Act, Next, State, vacant, object_at, thread_at, with_object, at_set, Effect, wrote, effects_of, next_of, FineAct, Unseen, More, Exchange, FineStep, Site, site_answers, Fine, Fits, Todo, Todos, address_of, act_in, woken_in, behind_shown, counted, is_recycle, is_wipe, one_if, recyclers, wipers, row_named, unwrap_or}
 use Rattle.um_base.specs.declared.limits.TheConstants.{FUTEX_CELL, JOIN_CELL}
 use Rattle.um_machine.proofs.AfterLemmas.{bytes-leave}
 use Rattle.um_machine.proofs.EffectLemmas.{OfEach, all-wrote, woken-by}
@@ -16,11 +16,10 @@ use Rattle.um_words.specs.declared.fine.Mark.{Mark}
 use Rattle.um_fine.specs.Answers.{is_void}
 use Rattle.um_fine.specs.Asks.{by_actor}
 use Rattle.um_fine.specs.Clock.{same_mark}
-use Rattle.um_fine.specs.Places.{mark_for, settling}
 use Rattle.um_refinement.specs.Fine.{clock}
 use Rattle.um_refinement.specs.Timing.{ExpiryComes, IsToCome, settles}
 use Rattle.um_refinement.proofs.CellSteps.{idle-count, takes-quiet, wipe-sum, wipers-few}
-use Rattle.um_refinement.proofs.CleanersSteps.{gain, rec-sum}
+use Rattle.um_refinement.proofs.CleanersSteps.{rec-sum}
 use Rattle.um_refinement.proofs.Erased.{around}
 use Rattle.um_refinement.proofs.Leaves.{Beside, Lawful, Leaves, beside, cleans, cuts, drops, event, expires, leaves as tells_left, mine, nothing, passes, recycles, resumes, ticks as time_passes, times_out}
 use Rattle.um_refinement.proofs.ListCounts.{recycles-of, takes-counts, wipes-of}
@@ -31,7 +30,7 @@ use Rattle.um_refinement.proofs.RowSteps.{named-row}
 use Rattle.um_refinement.proofs.SchedulerSteps.{made-at, made-moves, made-says}
 use Rattle.um_refinement.proofs.StepReads.{reads-last}
 use Rattle.um_refinement.proofs.FirstThreads.{one-most}
-use Rattle.um_refinement.proofs.TimersMade.{is_running, timer-made, until_or}
+use Rattle.um_refinement.proofs.TimersMade.{is_running, timer-made}
 use Rattle.um_refinement.proofs.ToCome.{clock-kept, some-left, to-come-kept}
 use Rattle.um_refinement.proofs.VoidLooks.{timer-found, timer-void}
 

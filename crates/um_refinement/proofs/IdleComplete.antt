@@ -1,5 +1,5 @@
 -- Where no processor runs a thread and none is ready, no event is a step of the access-matrix machine.
-use Rattle.um_refinement.proofs.Words.{and_parts, as_thread, nat_le, list_any, is_wipe, ThreadIx, IsOf, Told, Todo, ◌≡◌, ◌≢◌, ◌⊎◌, inl, inr, ℕ, zero, suc, ◌+◌, ◌<◌, ◌≤◌, Bool, true, false, List, [], ◌∷◌, length, Option, Some, None, refl, sym, ap, ◌∙◌, subst, arith, ◌==◌, ◌&&◌, ◌||◌, not, IsTrue, if◌then◌else◌, is_some, nat_lt, slice_index_or, slice_set, eqb-false, eqb-true, false≢true, ltb-true, true≢false, nat_tests, get_or-set_at, get_or-set_other, or-true, Image, ROWS, THREADS, own_row, Object, Pending, Life, Thread, Steps, is_empty, IsComplete, MayChoose, Offers, begins, exits, goes, skips_drops, skips_inherit, State, is_living, nobody, object_at, thread_at, vacant, Stage, is_dying, Context, Todos, parked_at, told_at, waits, call_claims, context_claims, Fine, one_if, over_processors, row, scheduler, total, adders, counted, has_steps, is_end_call, is_recycle, of_thread, runs, wake_of, recyclers, is_over, Rel, first_told, flags_of, is_ready_there, occurs, places, runs_on, told_by, MayClean, ThreadIs, tends, is_tending, may_go}
+use Rattle.um_refinement.proofs.Words.{and_parts, as_thread, nat_le, list_any, is_wipe, ThreadIx, IsOf, Todo, ◌≡◌, ◌≢◌, ◌⊎◌, inl, inr, ℕ, zero, suc, ◌+◌, ◌<◌, ◌≤◌, Bool, true, false, List, [], ◌∷◌, length, Option, Some, None, refl, sym, ap, ◌∙◌, subst, arith, ◌==◌, ◌&&◌, ◌||◌, not, IsTrue, if◌then◌else◌, is_some, nat_lt, slice_index_or, slice_set, eqb-false, eqb-true, false≢true, ltb-true, true≢false, nat_tests, get_or-set_at, get_or-set_other, or-true, Image, ROWS, THREADS, own_row, Object, Pending, Life, Thread, Steps, is_empty, IsComplete, MayChoose, Offers, begins, exits, goes, skips_drops, skips_inherit, State, is_living, nobody, object_at, thread_at, vacant, Stage, is_dying, Context, Todos, parked_at, told_at, waits, call_claims, context_claims, Fine, one_if, over_processors, row, scheduler, total, adders, counted, has_steps, is_end_call, is_recycle, of_thread, runs, wake_of, recyclers, is_over, Rel, first_told, flags_of, is_ready_there, occurs, places, runs_on, told_by, MayClean, ThreadIs, tends, is_tending, may_go}
 use Rattle.um_base.specs.declared.limits.TheConstants.{FUTEX_CELL, JOIN_CELL}
 use Rattle.um_machine.specs.declared.contents.Contents.{Contents}
 use Rattle.um_machine.specs.Joins.{has_ended, is_end}

@@ -1,8 +1,7 @@
 -- Who is to be killed, and makes no other step before, is aborted, in every state that a run of a described image reaches: a call has a kill right behind
 -- an abort of its own thread alone, and a cut leaves one who was aborted only that.
 use Rattle.um_base.specs.declared.names.Timeout.{Timeout}
-use Rattle.um_refinement.proofs.Words.{◌≡◌, ◌⊎◌, inl, inr, ℕ, zero, suc, ◌+◌, ◌<◌, arith, length, Bool, true, false, IsTrue, List, [], ◌∷◌, ◌++◌, Option, Some, None, refl, sym, ap, ◌∙◌, subst, ◌==◌, ◌&&◌, ℤ, if◌then◌else◌, nat_lt, list_all, eq-eqb, eqb-true, and_parts, false≢true, true≢false, slice_index_or, Cause, Ask, Image, Instr, Options, Errno, Kind, Mode, Policy, Row, Told, ThreadIx, Event, FineAct, More, Pending, Thread, Steps, Next, Effect, MayChoose, Offers, Runs, begins, exits, goes, opening, skips_drops, skips_inherit, tends, State, is_living, nobody, thread_at, with_thread, at_set, core_of, IsKnown, IsDescribed, effects_of, next_of, gone, wrote, after-is, answer_error, answer_zero, buffered, creates, privileged, steps_of, to_addr, to_thread, work, HoldsOfWays, way-left, steps_by, told_way, fatal_steps, THREADS}
-use Rattle.um_invariants.proofs.ThreadWords.{is_beside}
+use Rattle.um_refinement.proofs.Words.{◌≡◌, ◌⊎◌, inl, inr, ℕ, zero, suc, ◌+◌, ◌<◌, arith, length, Bool, true, false, List, [], ◌∷◌, ◌++◌, Option, Some, None, refl, sym, ap, ◌∙◌, subst, ◌==◌, ℤ, if◌then◌else◌, nat_lt, list_all, eqb-true, and_parts, false≢true, true≢false, slice_index_or, Cause, Ask, Image, Instr, Options, Errno, Kind, Mode, ThreadIx, Event, FineAct, More, Pending, Thread, Steps, Next, Effect, MayChoose, Offers, Runs, begins, exits, goes, opening, skips_drops, skips_inherit, tends, State, is_living, nobody, thread_at, with_thread, at_set, core_of, IsKnown, IsDescribed, effects_of, next_of, gone, wrote, after-is, answer_error, answer_zero, buffered, creates, privileged, steps_of, to_addr, to_thread, work, HoldsOfWays, way-left, told_way, THREADS}
 use Rattle.um_machine.proofs.AfterLemmas.{bytes-leave}
 use Rattle.um_machine.proofs.EffectLemmas.{OfEach, all-wrote, woken-by}
 use Rattle.um_machine.specs.Goes.{went}
@@ -10,8 +9,7 @@ use Rattle.um_machine.specs.Order.{aborts, answer_void, arms}
 use Rattle.um_machine.specs.Run.{is_tending, leaves, stops, waits_at}
 use Rattle.um_machine.specs.State.{with_pair}
 use Rattle.um_machine.specs.Table as T
-use Rattle.um_machine.specs.Writes.{Effects, Flag, cut, effect, flagged, is_done}
-use Rattle.um_machine.specs.Outcomes.{is_done_in}
+use Rattle.um_machine.specs.Writes.{Effects, Flag, cut, effect, flagged}
 use Rattle.um_refinement.proofs.CallsProper.{AreProper, Closing}
 use Rattle.um_refinement.proofs.CutPart.{AreAborted}
 use Rattle.um_refinement.proofs.Erased.{IsReachable, reach-on}

@@ -1,5 +1,5 @@
 -- Whether a deadline is armed next on a processor's list, after a step of it: as it is on the list behind that step.
-use Rattle.um_refinement.proofs.Words.{◌≡◌, ℕ, Bool, true, false, ◌∷◌, ◌++◌, [], Option, Some, None, refl, ap, false≢true, is_some, if◌then◌else◌, ◌==◌, own_row, row_named, Addr, Amount, Image, Pending, Steps, Context, Todo, Todos, fine_steps, on_memory, p_next, Processor, FineStep, Behind, behind_shown}
+use Rattle.um_refinement.proofs.Words.{◌≡◌, ℕ, Bool, true, false, ◌∷◌, ◌++◌, [], Option, Some, None, refl, false≢true, is_some, if◌then◌else◌, ◌==◌, own_row, row_named, Addr, Amount, Image, Pending, Steps, Context, Todo, Todos, fine_steps, on_memory, p_next, Processor, FineStep, Behind, behind_shown}
 use Rattle.um_fine.specs.Places.{armed_for, clearing, noted_cell, noting, settling}
 use Rattle.um_refinement.specs.Frames.{IsActOver, access_alone, access_settled, act_alone, act_settled}
 use Rattle.um_refinement.specs.Timing.{arms}

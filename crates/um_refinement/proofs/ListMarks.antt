@@ -1,6 +1,6 @@
 -- How many marks a processor has still to settle, has in its hand, and has still to pay, after a step of it: those behind that step, unless it arms a deadline
 -- or takes a mark.
-use Rattle.um_refinement.proofs.Words.{◌⊎◌, inl, inr, ◌≡◌, ℕ, ◌+◌, Bool, true, false, ◌∷◌, ◌++◌, Option, Some, None, refl, sym, behind_step, ap, ◌∙◌, subst, arith, [], if◌then◌else◌, ◌==◌, nat_lt, is_some, false≢true, true≢false, Image, ROWS, own_row, row_named, thread_of_row, Addr, Amount, Pending, Steps, Instr, begins_cleaning, Context, thread_in, goes_on_by, p_next, row_number, with_cleaned, Todo, Todos, but, cleaning_of, emptying, end_of_turn, fine_steps, is_cleaning_todo, next_steps, on_memory, sized, turn_of, with_cleaning, cleaning, Processor, Exchange, FineStep, Behind, after_take, dropped_at, instruction_at, is_empty, is_visit, refilled_by, resumed, counted, names_row, one_if}
+use Rattle.um_refinement.proofs.Words.{◌⊎◌, inl, inr, ◌≡◌, ℕ, ◌+◌, Bool, true, false, ◌∷◌, ◌++◌, Option, Some, None, refl, sym, behind_step, ap, ◌∙◌, [], if◌then◌else◌, ◌==◌, nat_lt, is_some, false≢true, true≢false, Image, ROWS, own_row, row_named, thread_of_row, Addr, Amount, Pending, Steps, Instr, begins_cleaning, Context, goes_on_by, p_next, row_number, with_cleaned, Todo, Todos, but, cleaning_of, emptying, end_of_turn, fine_steps, next_steps, on_memory, sized, turn_of, with_cleaning, cleaning, Processor, Exchange, FineStep, Behind, after_take, dropped_at, instruction_at, is_empty, is_visit, refilled_by, resumed, counted, names_row, one_if}
 use Rattle.um_words.specs.declared.fine.Mark.{Mark}
 use Rattle.um_fine.specs.Follows.{shown_step}
 use Rattle.um_fine.specs.Places.{armed_for, clearing, handling, is_paid, mark_for, noted_cell, noting, put_away, settling, turn}

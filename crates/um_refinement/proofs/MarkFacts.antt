@@ -1,5 +1,5 @@
 -- The marks of the clock as they are armed, settled and given: how many weren't given, and which are left.
-use Rattle.um_refinement.proofs.Words.{◌≡◌, ℕ, ◌+◌, ◌<◌, ◌≤◌, ◌||◌, ROWS, eq-eqb, eqb-true, leb-true, le-leb, list_all, ltb-true, nat_lt, nat_tests, one_if, subst, unwrap_or, Bool, true, false, List, [], ◌∷◌, ◌++◌, Option, Some, None, refl, sym, ap, ◌∙◌, arith, ◌&&◌, not, nat_le, ◌==◌, is_some, if◌then◌else◌, and_parts, and_from, false≢true, true≢false, not-true, not_from_false}
+use Rattle.um_refinement.proofs.Words.{◌≡◌, ℕ, ◌+◌, ◌<◌, ◌≤◌, ◌||◌, ROWS, eq-eqb, eqb-true, leb-true, le-leb, list_all, ltb-true, nat_lt, nat_tests, one_if, subst, unwrap_or, Bool, true, false, List, [], ◌∷◌, ◌++◌, Option, Some, None, refl, sym, ap, ◌∙◌, arith, ◌&&◌, not, nat_le, ◌==◌, is_some, if◌then◌else◌, and_parts, and_from, false≢true, not-true}
 use Rattle.um_words.specs.declared.fine.Mark.{Mark}
 use Rattle.std.specs.Prelude.{min}
 use Rattle.um_machine.specs.Time.{least, next_deadline}

@@ -1,19 +1,17 @@
 -- The marks of the clock after every lawful step: each that isn't settled is to be settled by a processor, and one that was given, or that is in a hand, is due.
-use Rattle.um_refinement.proofs.Words.{zero, suc, ◌||◌, Answer, IsOffered, thread_in, waits, and_from, first_ready, has_ready, nat_tests, same-sound, if◌then◌else◌, ◌≡◌, inl, inr, ℕ, ◌+◌, ◌*◌, ◌<◌, ◌≤◌, Bool, true, false, cond, List, [], ◌∷◌, ◌++◌, Option, Some, None, refl, sym, ap, ◌∙◌, subst, arith, IsTrue, ◌==◌, ◌&&◌, eq-eqb, eqb-true, is_some, list_all, list_any, nat_le, nat_lt, and_parts, false≢true, true≢false, ltb-true, lt-ltb, le-leb, leb-true, unwrap_or, Act, Ask, Addr, ThreadIx, ROWS, Image, Pending, Steps, State, thread_at, FineAct, Unseen, More, Event, to_thread, act_in, is_word_read, Context, no_context, after_show, after_take, continues, answer_in, begins_cleaning, filled_up, goes_on_by, p_next, says_show, turn, refilled_by, row_named, resumed, next_steps, Todo, Todos, Processor, Exchange, FineStep, Site, Fine, Fits, AreFramed, Behind, behind_shown, counted, one_if, over_processors, scheduler, same_site, is_empty, as_thread, own_part, cpu_of, same_cpu}
+use Rattle.um_refinement.proofs.Words.{zero, suc, ◌||◌, Answer, IsOffered, thread_in, waits, and_from, first_ready, has_ready, nat_tests, same-sound, if◌then◌else◌, ◌≡◌, inl, inr, ℕ, ◌+◌, ◌<◌, ◌≤◌, Bool, true, false, cond, List, [], ◌∷◌, Option, Some, None, refl, sym, ap, ◌∙◌, subst, arith, IsTrue, ◌==◌, ◌&&◌, eq-eqb, eqb-true, list_all, and_parts, false≢true, true≢false, ltb-true, leb-true, unwrap_or, Act, Ask, ROWS, Pending, Steps, State, FineAct, Unseen, to_thread, act_in, is_word_read, Context, after_show, after_take, continues, answer_in, filled_up, goes_on_by, p_next, turn, refilled_by, row_named, next_steps, Todo, Todos, Processor, Exchange, FineStep, Site, Fine, Fits, AreFramed, Behind, behind_shown, counted, one_if, over_processors, scheduler, same_site, is_empty}
 use Rattle.um_words.specs.declared.fine.Mark.{Mark}
 use Rattle.um_fine.specs.Answers.{deadline_in, due_in, is_killed, mark_in}
-use Rattle.um_fine.specs.Asks.{by_actor, moves_show}
-use Rattle.um_fine.specs.Clock.{Clock, Marked, clock_after, clock_says, first_due, give_first, later as next_time, same_mark, settle_first}
-use Rattle.um_fine.specs.Follows.{rereads, shown_step}
-use Rattle.um_fine.specs.Places.{armed_for, handling, is_paid, is_timer_start, mark_for, put_away}
-use Rattle.um_fine.specs.Runs.{changed}
+use Rattle.um_fine.specs.Asks.{by_actor}
+use Rattle.um_fine.specs.Clock.{Clock, Marked, clock_after, clock_says, first_due, later as next_time, same_mark, settle_first}
+use Rattle.um_fine.specs.Follows.{rereads}
+use Rattle.um_fine.specs.Places.{armed_for, is_paid, is_timer_start, mark_for, put_away}
 use Rattle.um_machine.specs.Order.{to_deadline, to_row}
-use Rattle.um_machine.specs.Time.{next_deadline}
 use Rattle.um_refinement.specs.Fine.{clock}
 use Rattle.um_refinement.specs.Offers.{IsNotedBy}
 use Rattle.um_refinement.specs.Lists.{is_arm, times}
 use Rattle.um_refinement.specs.Stops.{is_waiting_site}
-use Rattle.um_refinement.specs.Timing.{IsHand, IsPaying, MarksAre, armed_next, handles, is_open, is_placed, is_sound, open_marks, settles}
+use Rattle.um_refinement.specs.Timing.{IsHand, IsPaying, MarksAre, armed_next, handles, is_placed, is_sound, open_marks, settles}
 use Rattle.um_refinement.proofs.ArmSteps.{Acts, StartsTimer, Timed, Waiting, waiting-acts}
 use Rattle.um_refinement.proofs.ArmsGone.{IsNone, offered-stands}
 use Rattle.um_refinement.proofs.ArmsKnown.{AreTimed, Stands, armed, timer-acts, timer-armed}
@@ -22,8 +20,8 @@ use Rattle.um_refinement.proofs.Erased.{around, later}
 use Rattle.um_refinement.proofs.Kept.{IdleStep, gives, idle-step, ticks as time_goes, turns}
 use Rattle.um_refinement.proofs.Leaves.{Lawful, Leaves}
 use Rattle.um_refinement.proofs.ListGrips.{next-context}
-use Rattle.um_refinement.proofs.ListMarks.{IsFree, TakesCalm, handles-of, in_hand, next-count, next-made, next-one, settles-of, skips, taken-count, takes-free}
-use Rattle.um_refinement.proofs.MarkFacts.{all-armed, all-given, all-settled, due-among, due-parts, first-due, next-late, open-armed, open-given, open-settled, same-as, same-itself, same-placed, sound-given, sound-later, sound-settled}
+use Rattle.um_refinement.proofs.ListMarks.{TakesCalm, handles-of, in_hand, next-count, next-made, next-one, settles-of, skips, taken-count, takes-free}
+use Rattle.um_refinement.proofs.MarkFacts.{all-armed, all-given, all-settled, due-among, due-parts, first-due, next-late, open-armed, open-given, open-settled, same-itself, same-placed, sound-given, sound-later, sound-settled}
 use Rattle.um_refinement.proofs.MemorySteps.{part-total}
 use Rattle.um_refinement.proofs.Offered.{own-unless, runs-first}
 use Rattle.um_refinement.proofs.ResumeSteps.{TellsWaiters}

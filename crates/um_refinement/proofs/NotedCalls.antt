@@ -1,6 +1,6 @@
 -- The steps of a call that has noted a cell: its next step leaves them so, unless it ends the call; and a call that notes a cell makes its act next,
 -- behind which it ends.
-use Rattle.um_refinement.proofs.Words.{◌≡◌, inl, inr, ℕ, false, true, List, [], ◌∷◌, Option, Some, None, refl, sym, ap, ◌∙◌, subst, false≢true, true≢false, Act, Image, Change, Next, Way, continues, gone_part, steps_by, way-left, HoldsOfWays, Ask, Exchange, Pending, Steps, Thread, State, thread_at, Context, as_thread, came_in, IsOffered, Offers, goes, skips_inherit, skips_drops, begins, exits, tends}
+use Rattle.um_refinement.proofs.Words.{◌≡◌, inl, inr, ℕ, false, true, List, [], ◌∷◌, Option, Some, refl, sym, subst, false≢true, true≢false, Act, Image, Next, Way, continues, gone_part, steps_by, way-left, HoldsOfWays, Ask, Exchange, Pending, Steps, Thread, State, thread_at, Context, as_thread, came_in, IsOffered, Offers, goes, skips_inherit, skips_drops, begins, exits, tends}
 use Rattle.um_machine.specs.Run.{leaves, stops}
 use Rattle.um_machine.specs.Table as T
 use Rattle.um_fine.specs.Places.{noted_cell}

@@ -1,12 +1,11 @@
 -- A thread with a note is in a call that has noted that cell, after every lawful step; and a thread that begins to wait has noted its cell.
-use Rattle.um_refinement.proofs.Words.{◌≡◌, inl, inr, ℕ, ◌+◌, ◌<◌, Bool, true, false, [], ◌∷◌, Option, Some, None, length, refl, sym, ap, ◌∙◌, subst, arith, eq-eqb, ◌==◌, ◌&&◌, not, is_some, eqb-false, eqb-true, false≢true, true≢false, ROWS, THREADS, Told, Pending, Steps, Thread, State, thread_at, to_thread, act_in, Context, as_thread, continues, Exchange, Todo, Todos, FineStep, Fine, Fits, IsOf, IsOffered, is_over, waits, own_part, runs_thread, steps_by, told_way, resumed_at, unwrap_or, ThreadIx, word}
+use Rattle.um_refinement.proofs.Words.{◌≡◌, inl, inr, ℕ, ◌<◌, Bool, true, false, [], ◌∷◌, Option, Some, None, length, refl, sym, ap, ◌∙◌, subst, arith, eq-eqb, ◌==◌, ◌&&◌, is_some, eqb-false, eqb-true, false≢true, true≢false, THREADS, Told, Pending, Steps, Thread, State, thread_at, to_thread, act_in, Context, as_thread, continues, Exchange, Todo, Todos, FineStep, Fine, Fits, IsOf, IsOffered, is_over, waits, own_part, steps_by, told_way, resumed_at, unwrap_or, ThreadIx, word}
 use Rattle.um_fine.specs.Places.{noted_cell}
 use Rattle.um_machine.specs.Table as T
 use Rattle.um_machine.specs.Writes.{cut}
 use Rattle.um_refinement.specs.Frames.{IsNoted, accesses, acts, arming}
-use Rattle.um_refinement.specs.Lists.{is_arm}
 use Rattle.um_refinement.specs.Stops.{ActsIn, HasNoted, LiesAt, cell_site, runs_it}
-use Rattle.um_refinement.specs.Threads.{as_cut, cutters}
+use Rattle.um_refinement.specs.Threads.{as_cut}
 use Rattle.um_refinement.specs.Timing.{IsHand}
 use Rattle.um_refinement.proofs.ArmSteps.{Timed}
 use Rattle.um_refinement.proofs.ArmsKnown.{AreTimed}
@@ -18,8 +17,8 @@ use Rattle.um_refinement.proofs.Leaves.{Beside, HasStep, Lawful, Leaves, beside,
 use Rattle.um_refinement.proofs.MemoryPart.{InDomains}
 use Rattle.um_refinement.proofs.NotedCalls.{acts-next, acts-there, arms-next, call-goes, ends-left, offered-call}
 use Rattle.um_refinement.proofs.NoteSteps.{Noting, final-note, finals, is_final, notes, noting, starts as starts_now, stays as note_stays, thread_of}
-use Rattle.um_refinement.proofs.Offered.{IsStep, Shows, noted-by, own-same, own-unless, runs-first, shown-offers, shown-on, shows-runs}
-use Rattle.um_refinement.proofs.Others.{doing, starts_other}
+use Rattle.um_refinement.proofs.Offered.{IsStep, Shows, noted-by, own-unless, runs-first, shown-offers, shown-on, shows-runs}
+use Rattle.um_refinement.proofs.Others.{starts_other}
 use Rattle.um_refinement.proofs.OfVisits.{scheduler-tells}
 use Rattle.um_refinement.proofs.Own.{own-after, own-resumed}
 use Rattle.um_refinement.proofs.OwnKept.{own-kept}

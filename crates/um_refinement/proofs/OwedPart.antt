@@ -1,8 +1,8 @@
 -- The scheduler's word counts the marks that are owed, after every lawful step.
-use Rattle.um_refinement.proofs.Words.{◌≡◌, inr, ℕ, ◌+◌, ◌-◌, ◌<◌, Bool, true, false, List, [], ◌∷◌, ◌++◌, Some, refl, sym, ap, ◌∙◌, subst, arith, IsTrue, nat_lt, ltb-true, Exchange, first_ready, has_ready, Behind, false≢true, Pending, Steps, State, FineAct, Unseen, to_thread, act_in, ready_in, is_word_read, says_show, first_taken, p_next, Todo, Todos, Scheduler, sched_after, same_site, FineStep, Site, Fine, Fits, counted, one_if, over_processors, scheduler}
-use Rattle.um_fine.specs.Answers.{deadline_in, due_in, mark_in}
+use Rattle.um_refinement.proofs.Words.{◌≡◌, inr, ℕ, ◌+◌, ◌-◌, Bool, true, false, List, [], ◌∷◌, refl, sym, ap, ◌∙◌, subst, arith, IsTrue, ltb-true, Exchange, first_ready, has_ready, Behind, false≢true, Pending, Steps, State, FineAct, Unseen, first_taken, Todo, Todos, Scheduler, sched_after, same_site, FineStep, Site, Fine, Fits, counted, one_if, scheduler}
+use Rattle.um_fine.specs.Answers.{due_in, mark_in}
 use Rattle.um_fine.specs.Asks.{by_actor, says_turn}
-use Rattle.um_fine.specs.Clock.{Clock, Marked, give_first, settle_first}
+use Rattle.um_fine.specs.Clock.{Clock, give_first}
 use Rattle.um_fine.specs.Places.{is_paid}
 use Rattle.um_base.specs.declared.act.Act.{Act}
 use Rattle.um_refinement.specs.Fine.{clock}
@@ -13,10 +13,10 @@ use Rattle.um_refinement.proofs.Erased.{around}
 use Rattle.um_refinement.proofs.Kept.{IdleStep, gives, idle-step, ticks as time_goes, turns}
 use Rattle.um_refinement.proofs.Leaves.{Lawful}
 use Rattle.um_refinement.proofs.ListArms.{behind-arms, next-arms, takes-arms}
-use Rattle.um_refinement.proofs.ListMarks.{IsFree, in_hand, next-count, paid-of, skips, taken-count, takes-free}
+use Rattle.um_refinement.proofs.ListMarks.{in_hand, next-count, paid-of, skips, taken-count, takes-free}
 use Rattle.um_refinement.proofs.MarkFacts.{left-armed, left-given, left-settled}
 use Rattle.um_refinement.proofs.RunningPart.{idle-after, is_scheduling, todo-elsewhere}
-use Rattle.um_refinement.proofs.SchedulerSteps.{made-at, made-says, sched-else, sched-later, sched-took, shown-elsewhere}
+use Rattle.um_refinement.proofs.SchedulerSteps.{made-at, made-says, sched-else, sched-later, sched-took}
 use Rattle.um_refinement.proofs.StepReads.{is-behind, is-placed, reads-last}
 use Rattle.um_refinement.proofs.Sums.{over-changed}
 

@@ -1,5 +1,5 @@
 -- Every lawful step keeps the relation: its parts together, and in the states that a run of a described image reaches all that they ask for.
-use Rattle.um_refinement.proofs.Words.{◌+◌, [], Context, None, ROWS, Some, false, object_at, own_row, true, word, ◌<◌, Fits, THREADS, thread_at, sym, subst, ◌≡◌, ℕ, length, refl, ◌∙◌, Image, IsLawful, Pending, Steps, to_thread, opening, State, core_of, IsSited, IsKnown, IsDescribed, ByOneOf, cpu_of, site_of, Processor, SiteMay, SiteState, FineStep, Site, Fine, Rel, wrote, effects_of, next_of, ContextsAre, image-wrote, shared-went}
+use Rattle.um_refinement.proofs.Words.{Fits, thread_at, sym, subst, ◌≡◌, ℕ, length, refl, ◌∙◌, Image, IsLawful, Pending, Steps, to_thread, opening, State, core_of, IsSited, IsKnown, IsDescribed, ByOneOf, cpu_of, site_of, Processor, SiteMay, SiteState, FineStep, Site, Fine, Rel, wrote, effects_of, next_of, ContextsAre, image-wrote, shared-went}
 use Rattle.um_machine.specs.Table as T
 use Rattle.um_refinement.proofs.AwayPart.{away-part}
 use Rattle.um_refinement.proofs.CallsKnown.{RestsHoldNothing, own-known}
@@ -31,11 +31,8 @@ use Rattle.um_refinement.proofs.TimeoutPart.{timeout-part}
 use Rattle.um_refinement.proofs.TimerPart.{timer-part}
 use Rattle.um_refinement.proofs.UnarmedPart.{unarmed-part}
 use Rattle.um_refinement.proofs.WaitersFound.{WaitersWait}
-use Rattle.um_refinement.proofs.WaitsKept.{Begun, waits-noted}
+use Rattle.um_refinement.proofs.WaitsKept.{waits-noted}
 use Rattle.um_refinement.proofs.WaitersKnown.{UntilsAre, WaitersHold, holds-known, untils-known}
-use Rattle.um_fine.specs.Joins.{is_shut}
-use Rattle.um_refinement.specs.Fine.{joins}
-use Rattle.um_refinement.specs.Stops.{cell_site, notes_in}
 use Rattle.um_refinement.proofs.NoteCells.{note-cell}
 use Rattle.um_refinement.proofs.NoteNumbers.{note-number}
 use Rattle.um_refinement.proofs.NotesBegun.{notes-begun}

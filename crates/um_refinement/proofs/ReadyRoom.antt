@@ -1,5 +1,5 @@
 -- The ready list has a place for each thread that is put there next: that one isn't in it.
-use Rattle.um_refinement.proofs.Words.{Bool, zero, suc, as_thread, over_processors, ◌≡◌, inl, ℕ, ◌+◌, ◌<◌, ◌≤◌, true, false, List, ◌∷◌, length, Option, Some, None, refl, sym, ap, ◌∙◌, subst, arith, eq-eqb, ◌&&◌, ◌||◌, IsTrue, if◌then◌else◌, is_some, nat_lt, not, list_all, and_parts, false≢true, ltb-true, true≢false, Told, THREADS, Thread, State, thread_at, Context, Todo, Todos, parked_at, told_at, waits, Fine, one_if, scheduler, Adds, counted, has_steps, is_wake, wake_of, Fits, Rel, is_ready_there, occurs}
+use Rattle.um_refinement.proofs.Words.{Bool, zero, suc, as_thread, over_processors, ◌≡◌, inl, ℕ, ◌+◌, ◌<◌, ◌≤◌, true, false, List, ◌∷◌, length, Option, Some, None, refl, sym, ap, ◌∙◌, subst, arith, eq-eqb, ◌&&◌, ◌||◌, IsTrue, if◌then◌else◌, is_some, nat_lt, not, list_all, and_parts, false≢true, ltb-true, true≢false, Told, THREADS, Thread, State, thread_at, Context, Todo, Todos, parked_at, told_at, waits, Fine, one_if, scheduler, Adds, counted, is_wake, wake_of, Fits, Rel, is_ready_there, occurs}
 use Rattle.um_fine.specs.Scheduler.{is_cut}
 use Rattle.um_refinement.specs.Lists.{is_cut_told}
 use Rattle.um_refinement.specs.Stops.{CutIs}

@@ -1,6 +1,6 @@
 -- Words and lists of what a fine run of a described image leaves have room for the next step, where words can count it; and each event that is next
 -- is one that its site takes, but for a move of a thread that is held.
-use Rattle.um_refinement.proofs.Words.{◌≡◌, ℕ, ◌<◌, false, ◌∷◌, length, refl, sym, ap, subst, Pending, Steps, State, Context, Todo, Todos, Fine, has_steps, Fits, IsOffered, Rel, CanCount, CanRun, true≢false, ◌∙◌}
+use Rattle.um_refinement.proofs.Words.{◌≡◌, ℕ, ◌<◌, false, ◌∷◌, length, refl, sym, subst, Pending, Steps, State, Context, Todo, Todos, Fine, Fits, IsOffered, Rel, CanCount, CanRun, true≢false, ◌∙◌}
 use Rattle.um_refinement.proofs.Bounds.{AreBounded}
 use Rattle.um_refinement.proofs.CallBounds.{Bounded}
 use Rattle.um_refinement.proofs.CallsProper.{AreProper}

@@ -1,6 +1,6 @@
 -- Where a processor can't step, its list doesn't begin with a step that its site takes whatever stands there: each step that no trace shows, but
 -- claims of domains, is such a step. Bounds on words and lists are asked for by name, and known of fine runs (RoomKnown).
-use Rattle.um_refinement.proofs.Words.{Row, act_in, address_of, woken_in, Act, ThreadIx, Event, bytes, object, Some, ◌≡◌, inl, inr, ℕ, ◌+◌, ◌-◌, ◌<◌, ◌≤◌, Bool, true, false, ◌∷◌, length, Option, refl, sym, ap, ◌∙◌, subst, arith, eq-eqb, ◌==◌, ◌&&◌, ◌||◌, not, IsTrue, if◌then◌else◌, nat_lt, list_all, list_any, and_parts, false≢true, lt-ltb, ltb-true, Leftover, ROWS, STATIC_ROWS, THREADS, Told, Image, Addr, Kind, Want, Pending, Refusal, Steps, State, object_at, FineAct, More, Unseen, RowWord, Stage, has, is_cleaning, is_dying, is_last, left_of, begins_cleaning, is_dropped, moves, says, site_at, Cell, Context, Todo, Todos, cleanings, Processor, SiteMay, SiteState, is_sort, site_takes, Exchange, FineStep, Site, Fine, domain, domain_state, one_if, parts_state, row, row_state, scheduler, word, counted, has_held, has_steps, is_end_call, is_hold, is_let_go, is_vacate, names_row, runs, runs_thread, AreFramed, Behind, is_reserved, recyclers, status_of, vacaters, Rel, CanCount, IsHalted, DOMAINS, no_event, no_row, fits_step, made_by, filled, Word, has_number}
+use Rattle.um_refinement.proofs.Words.{Row, act_in, address_of, woken_in, Act, ThreadIx, Event, bytes, object, Some, ◌≡◌, inl, inr, ℕ, ◌+◌, ◌-◌, ◌<◌, ◌≤◌, Bool, true, false, ◌∷◌, length, Option, refl, sym, ap, ◌∙◌, subst, arith, eq-eqb, ◌==◌, ◌&&◌, ◌||◌, not, IsTrue, if◌then◌else◌, nat_lt, list_all, list_any, and_parts, false≢true, lt-ltb, ltb-true, Leftover, ROWS, STATIC_ROWS, THREADS, Told, Image, Addr, Kind, Want, Pending, Refusal, Steps, State, object_at, FineAct, More, Unseen, RowWord, Stage, has, is_cleaning, is_dying, is_last, left_of, begins_cleaning, is_dropped, moves, says, site_at, Cell, Context, Todo, Todos, cleanings, Processor, SiteMay, SiteState, is_sort, site_takes, Exchange, FineStep, Site, Fine, domain, domain_state, one_if, parts_state, row, row_state, scheduler, word, counted, has_held, is_end_call, is_hold, is_let_go, is_vacate, names_row, runs, runs_thread, AreFramed, Behind, is_reserved, recyclers, status_of, vacaters, Rel, CanCount, IsHalted, DOMAINS, no_event, no_row, fits_step, made_by, filled, Word, has_number}
 use Rattle.um_machine.specs.Objects as Plain
 use Rattle.um_base.specs.declared.limits.TheConstants.{FUTEX_CELL, JOIN_CELL}
 use Rattle.um_machine.specs.Order.{to_thread}

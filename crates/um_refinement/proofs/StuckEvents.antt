@@ -1,5 +1,5 @@
 -- Where a processor can't step, an event that is next moves a thread that is held: its site takes any other one.
-use Rattle.um_refinement.proofs.Words.{are_orderly, waits, FineAct, More, ◌≡◌, inl, inr, ℕ, zero, suc, ◌<◌, Bool, true, false, List, [], ◌∷◌, length, Option, Some, None, refl, sym, ap, ◌∙◌, subst, arith, eq-eqb, ◌==◌, ◌&&◌, ◌||◌, ℤ, not, if◌then◌else◌, is_some, nat_lt, slice_index_or, unwrap_or, list_all, list_any, and_parts, eqb-true, false≢true, lt-ltb, ltb-true, true≢false, or-true, Act, Image, Addr, ROWS, Kind, Mode, Reply, Row, ThreadIx, Want, own_row, row_at, Partitions, Object, Status, Pending, Refusal, Life, Thread, Steps, State, instruction_at, is_living, is_started, object_at, thread_at, vacant, Call, call_is, status_is, Guarded, IsStatic, behind_birth, Stage, is_cleaning, is_free, row_named, allows, check_site, Cell, newborn, Bytes, Todo, Todos, fails, SiteState, Exchange, Site, reads, Fine, bytes, domain, one_if, row, word, edits, edits_step, has_claimed, has_held, has_steps, is_hold, is_let_go, moves_to, moving, runs, is_reserved, recyclers, status_of, vacaters, Fits, IsOffered, is_over, Rel, IsHalted, IsOf, is_ended, le-leb, DOMAINS, domain_at, move_reply, Names, bearing, memory_says_act, all_behind}
+use Rattle.um_refinement.proofs.Words.{are_orderly, waits, FineAct, More, ◌≡◌, inl, inr, ℕ, zero, suc, ◌<◌, Bool, true, false, List, [], ◌∷◌, length, Option, Some, None, refl, sym, ap, ◌∙◌, subst, arith, eq-eqb, ◌==◌, ◌&&◌, ◌||◌, ℤ, not, if◌then◌else◌, is_some, nat_lt, slice_index_or, unwrap_or, list_all, list_any, and_parts, eqb-true, false≢true, lt-ltb, ltb-true, true≢false, or-true, Act, Image, Addr, ROWS, Kind, Mode, Reply, Row, ThreadIx, Want, own_row, row_at, Partitions, Object, Status, Pending, Refusal, Life, Thread, Steps, State, instruction_at, is_living, is_started, object_at, thread_at, vacant, Call, call_is, status_is, Guarded, IsStatic, behind_birth, Stage, is_cleaning, is_free, row_named, allows, check_site, Cell, newborn, Todo, Todos, fails, SiteState, Exchange, Site, reads, Fine, bytes, domain, one_if, row, word, edits, edits_step, has_claimed, has_held, is_hold, is_let_go, moves_to, moving, runs, is_reserved, recyclers, status_of, vacaters, Fits, IsOffered, is_over, Rel, IsHalted, IsOf, is_ended, le-leb, DOMAINS, domain_at, move_reply, Names, bearing, all_behind}
 use Rattle.um_base.specs.declared.names.Access.TheVariants as Access
 use Rattle.um_machine.specs.Objects as Plain
 use Rattle.um_machine.specs.Order.{to_thread}

@@ -1,6 +1,6 @@
 -- Where a processor can't step, it waits with nothing, a claim of a domain, or an event: a hold is never refused, a claim waits for one that writes or reads its domain, a
 -- move for one that holds its thread. Where none can step, no processor has a step left to make: those have steps to make that wait for nobody.
-use Rattle.um_refinement.proofs.Words.{Addr, Image, ROWS, row_at, row_named, unwrap_or, is_some, ◌≡◌, ◌⊎◌, inl, inr, ℕ, zero, suc, ◌+◌, ◌<◌, ◌≤◌, Bool, true, false, [], ◌∷◌, length, Option, Some, None, refl, sym, ap, ◌∙◌, subst, arith, eq-eqb, ◌==◌, ◌&&◌, ◌||◌, not, nat_lt, list_any, and_parts, eqb-true, false≢true, lt-ltb, ltb-true, true≢false, or-true, THREADS, Reply, ThreadIx, Pending, Steps, is_empty, State, Context, ByOneOf, Todo, Todos, fails, SiteState, Exchange, Site, reads, Fine, domain, one_if, over_processors, word, AreFramed, Behind, access_over, adders, edits, edits_step, has_claimed, has_held, has_steps, is_hold, is_let_go, is_own_claim, is_own_done, moves_step, moves_to, of_thread, runs, runs_thread, Fits, behind_shown, is_over, Rel, IsHalted, IsStuck, runs_on, ⊎_elim, claimed_domain}
+use Rattle.um_refinement.proofs.Words.{Addr, Image, ROWS, row_at, row_named, unwrap_or, is_some, ◌≡◌, ◌⊎◌, inl, inr, ℕ, zero, suc, ◌+◌, ◌<◌, ◌≤◌, Bool, true, false, [], ◌∷◌, length, Option, Some, None, refl, sym, ap, ◌∙◌, subst, arith, eq-eqb, ◌==◌, ◌&&◌, ◌||◌, not, nat_lt, list_any, and_parts, eqb-true, false≢true, lt-ltb, ltb-true, true≢false, or-true, THREADS, Reply, ThreadIx, Pending, Steps, is_empty, State, Context, ByOneOf, Todo, Todos, fails, SiteState, Exchange, Site, reads, Fine, domain, one_if, over_processors, word, AreFramed, Behind, access_over, adders, edits, edits_step, has_claimed, has_held, is_hold, is_let_go, is_own_claim, is_own_done, moves_step, moves_to, of_thread, runs, runs_thread, Fits, behind_shown, is_over, Rel, IsHalted, IsStuck, runs_on, ⊎_elim, claimed_domain}
 use Rattle.um_words.specs.declared.fine.Mark.{Mark}
 use Rattle.um_words.specs.declared.kind.TheConstants.{SITES}
 use Rattle.um_fine.specs.Places.{if_patient, is_patient, may_wait, noted_cell}

@@ -1,6 +1,6 @@
 -- A thread that waits with a deadline has a mark of it, after every lawful step: where it begins to wait its list has that mark to settle, and the
 -- mark stays until it is handled, which ends the wait.
-use Rattle.um_refinement.proofs.Words.{◌≡◌, ◌⊎◌, inl, inr, ℕ, ◌+◌, ◌<◌, ◌≤◌, Bool, true, false, List, [], ◌∷◌, ◌++◌, Option, Some, None, refl, sym, ap, ◌∙◌, subst, arith, ◌==◌, ◌&&◌, ◌||◌, not, if◌then◌else◌, is_some, nat_lt, eqb-false, eqb-true, eq-eqb, and_from, and_parts, false≢true, true≢false, ltb-true, Ask, Addr, Answer, Image, Waiter, ThreadIx, ROWS, THREADS, Pending, Steps, Thread, to_thread, Row, Act, Told, Event, State, object_at, thread_at, FineAct, Unseen, More, Context, waits, Exchange, FineStep, Site, SiteState, site_answers, Fine, Fits, Rel, Todo, Todos, Processor, behind_shown, counted, over_processors, row_named, own_part}
+use Rattle.um_refinement.proofs.Words.{◌≡◌, ◌⊎◌, inl, inr, ℕ, ◌+◌, ◌<◌, Bool, true, false, List, [], ◌∷◌, Option, Some, None, refl, sym, ap, ◌∙◌, subst, arith, ◌==◌, if◌then◌else◌, is_some, eqb-false, eqb-true, eq-eqb, and_from, true≢false, ltb-true, Ask, Addr, Answer, Waiter, ROWS, THREADS, Pending, Steps, Thread, to_thread, Act, State, thread_at, FineAct, Unseen, waits, Exchange, FineStep, Site, site_answers, Fine, Fits, Todo, Todos, behind_shown, counted, row_named}
 use Rattle.um_base.specs.declared.limits.TheConstants.{FUTEX_CELL, JOIN_CELL}
 use Rattle.um_machine.specs.declared.contents.Contents.{Contents}
 use Rattle.um_machine.specs.Order.{to_row}
@@ -12,10 +12,9 @@ use Rattle.um_fine.specs.Answers.{is_void}
 use Rattle.um_fine.specs.Asks.{by_actor}
 use Rattle.um_fine.specs.Clock.{same_mark}
 use Rattle.um_fine.specs.Places.{armed_for, is_timer_start, mark_for, settling}
-use Rattle.um_fine.specs.Seeking.{deadline_of, finds, is_number, stands_in}
-use Rattle.um_fine.specs.Sites.{site_numbered}
+use Rattle.um_fine.specs.Seeking.{is_number, stands_in}
 use Rattle.um_refinement.specs.Fine.{clock}
-use Rattle.um_refinement.specs.Stops.{cell_site, notes_in, waits_at}
+use Rattle.um_refinement.specs.Stops.{cell_site}
 use Rattle.um_refinement.specs.Timing.{IsToCome, TimeoutComes, settles}
 use Rattle.um_refinement.proofs.CellSites.{site-of-cell, waiting_cell}
 use Rattle.um_refinement.proofs.Erased.{Goes, GoesBy, around}

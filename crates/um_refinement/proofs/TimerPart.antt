@@ -1,26 +1,24 @@
 -- What a processor has that tends to time: the thread of its last event was started, and with a mark in its hand its list is that of the mark, after
 -- every lawful step.
-use Rattle.um_refinement.proofs.Words.{Act, ◌≡◌, inr, ℕ, zero, suc, ◌+◌, ◌<◌, Bool, true, false, cond, List, [], ◌∷◌, length, Option, Some, None, refl, sym, ap, ◌∙◌, subst, arith, IsTrue, ◌||◌, ◌==◌, if◌then◌else◌, list_any, is_some, slice_index_or, eqb-true, false≢true, true≢false, Told, Image, ThreadIx, Thread, THREADS, Pending, Steps, nobody, State, is_started, thread_at, FineAct, Unseen, Event, More, act_in, is_word_read, thread_in, to_thread, Context, after_claim, after_show, after_take, begins_cleaning, domain_in, filled_up, goes_on_by, p_next, refilled_by, turn, wakes, with_cleaned, Todo, Todos, Processor, Exchange, FineStep, Fine, first_ready, has_ready, counted, is_empty, cpu_of, same_cpu, scheduler, woken_in}
+use Rattle.um_refinement.proofs.Words.{Act, ◌≡◌, inr, ℕ, zero, suc, ◌<◌, Bool, true, false, cond, List, [], ◌∷◌, length, Some, None, refl, sym, ap, ◌∙◌, subst, arith, IsTrue, ◌||◌, ◌==◌, if◌then◌else◌, slice_index_or, eqb-true, false≢true, Told, Image, ThreadIx, Thread, Pending, nobody, State, is_started, thread_at, FineAct, Unseen, act_in, is_word_read, thread_in, after_claim, after_show, after_take, begins_cleaning, domain_in, filled_up, goes_on_by, p_next, refilled_by, turn, wakes, with_cleaned, Todo, Todos, Processor, Exchange, FineStep, Fine, first_ready, has_ready, counted, is_empty, scheduler, woken_in}
 use Rattle.um_words.specs.declared.fine.Mark.{Mark}
 use Rattle.um_fine.specs.Answers.{is_void}
 use Rattle.um_fine.specs.Asks.{by_actor, marks_end, or_void}
 use Rattle.um_fine.specs.Follows.{shown_step, told_marked, with_actor}
-use Rattle.um_fine.specs.Places.{handling, is_paid, put_away}
+use Rattle.um_fine.specs.Places.{is_paid, put_away}
 use Rattle.um_fine.specs.Processor.{actor_or}
-use Rattle.um_fine.specs.Runs.{changed}
 use Rattle.um_refinement.specs.Lists.{times}
 use Rattle.um_refinement.specs.Timing.{IsHand, IsPaying, TimerIs}
 use Rattle.um_refinement.proofs.Erased.{around}
 use Rattle.um_refinement.proofs.Kept.{IdleStep, gives, idle-step, ticks as time_goes, turns}
-use Rattle.um_refinement.proofs.Leaves.{Beside, Lawful, Leaves, acting, beside, cleans, cuts, drops, event, expires, leaves as tells_left, mine, nothing, passes, recycles, resumes, ticks as time_passes, times_out}
+use Rattle.um_refinement.proofs.Leaves.{Beside, Lawful, Leaves, beside, cleans, cuts, drops, event, expires, leaves as tells_left, mine, nothing, passes, recycles, resumes, ticks as time_passes, times_out}
 use Rattle.um_refinement.proofs.ListMarks.{in_hand, next-count, paid-of, taken-count, takes-free}
 use Rattle.um_refinement.proofs.ListTails.{exact-next}
-use Rattle.um_refinement.proofs.Offered.{Shows, act-is, own-part, runs-first}
+use Rattle.um_refinement.proofs.Offered.{act-is, own-part, runs-first}
 use Rattle.um_refinement.proofs.PartsElsewhere.{started-kept}
 use Rattle.um_refinement.proofs.ResumeSteps.{first-taken, takes-turn}
 use Rattle.um_refinement.proofs.SchedulerSteps.{made-says}
 use Rattle.um_refinement.proofs.StepReads.{is-behind, reads-last}
-use Rattle.um_refinement.proofs.VisitSteps.{visit-part}
 
 -- a thread that was started has an index
 started-in : (xs : List Thread) (v : ℕ) → IsTrue (is_started (slice_index_or xs v nobody).life) → v < length xs

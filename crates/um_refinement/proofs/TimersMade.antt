@@ -1,11 +1,11 @@
 -- Only the start of a timer leaves one that runs: contents that don't run before an act run after it only where it starts a timer; and only such an
 -- act, or one on that timer, leaves a timer that runs until a deadline.
-use Rattle.um_refinement.proofs.Words.{◌≡◌, ◌⊎◌, inl, inr, ℕ, ◌+◌, Bool, true, false, refl, sym, ap, ◌∙◌, if◌then◌else◌, List, [], ◌∷◌, ◌++◌, length, nat_lt, Option, Some, None, not, ◌==◌, false≢true, true≢false, ThreadIx, Waiter, Answer, Ask, Errno, Reply, Told}
-use Rattle.std.specs.Prelude.{◌-◌, drop, filter, nat_le, reverse, take}
+use Rattle.um_refinement.proofs.Words.{◌≡◌, ◌⊎◌, inl, inr, ℕ, ◌+◌, Bool, true, false, refl, sym, ap, ◌∙◌, if◌then◌else◌, List, [], ◌∷◌, ◌++◌, length, nat_lt, Option, Some, None, not, ◌==◌, true≢false, ThreadIx, Waiter, Answer, Ask, Errno, Reply}
+use Rattle.std.specs.Prelude.{◌-◌, filter, nat_le, reverse, take}
 use Rattle.um_base.specs.declared.names.Timeout.{Timeout}
 use Rattle.um_machine.specs.declared.contents.Contents.{Contents}
 use Rattle.um_machine.specs.Contents.{saturated}
-use Rattle.um_machine.specs.Services.{Acted, acted_by, answers, blocks, fills, in_order, is_empty, is_getter, is_putter, is_reader, is_writer, msgq_act, msgq_get, msgq_peek, msgq_put, msgq_take, mutex_act, mutex_lock, mutex_passes, mutex_unlock, pipe, pipe_act, pipe_read, pipe_take, pipe_write, queue, readers_served, renews, sem_act, sem_give, stack, stack_act, stack_pop, stack_push, still_waiting, stopped_act, running_act, timer_stops, uses}
+use Rattle.um_machine.specs.Services.{Acted, acted_by, answers, blocks, fills, in_order, is_empty, is_getter, is_putter, is_reader, msgq_act, msgq_get, msgq_peek, msgq_put, msgq_take, mutex_act, mutex_lock, mutex_passes, mutex_unlock, pipe, pipe_act, pipe_read, pipe_take, pipe_write, queue, readers_served, renews, sem_act, sem_give, stack, stack_act, stack_pop, stack_push, still_waiting, stopped_act, running_act, timer_stops, uses}
 
 abbrev pub is_running : Contents → Bool
 is_running (Contents.Running deadline) = true

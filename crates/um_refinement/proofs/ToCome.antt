@@ -1,5 +1,5 @@
 -- A mark that is still to be handled is so after a step, unless that step handles it: the clock that gives it gives it to a processor's hand.
-use Rattle.um_refinement.proofs.Words.{Site, ◌≡◌, ◌⊎◌, inl, inr, ℕ, ◌+◌, ◌<◌, ◌≤◌, Bool, true, false, cond, List, [], ◌∷◌, ◌++◌, Option, Some, None, refl, sym, ap, ◌∙◌, subst, arith, ◌==◌, ◌&&◌, ◌||◌, not, if◌then◌else◌, list_all, list_any, nat_le, eqb-true, eq-eqb, and_from, and_parts, false≢true, true≢false, not-true, is_some, lt-ltb, Act, Image, Pending, Steps, State, FineAct, Unseen, Exchange, FineStep, Fine, AreFramed, Todo, Todos, Processor, after_take, goes_on_by, p_next, counted, first_ready, has_ready, one_if, over_processors, same_site, scheduler}
+use Rattle.um_refinement.proofs.Words.{Site, ◌≡◌, ◌⊎◌, inl, inr, ℕ, ◌+◌, ◌<◌, Bool, true, false, cond, List, [], ◌∷◌, ◌++◌, Option, Some, None, refl, sym, ap, ◌∙◌, subst, arith, ◌==◌, ◌&&◌, ◌||◌, not, if◌then◌else◌, list_all, list_any, nat_le, eqb-true, eq-eqb, and_parts, false≢true, Act, Pending, Steps, State, FineAct, Unseen, Exchange, FineStep, Fine, Todo, Todos, p_next, counted, same_site}
 use Rattle.um_words.specs.declared.fine.Mark.{Mark}
 use Rattle.um_fine.specs.Asks.{by_actor}
 use Rattle.um_fine.specs.Clock.{Clock, Marked, first_due, give_first, is_due, is_unsettled, same_mark, settle_first}

@@ -1,25 +1,23 @@
 -- Where no act is on its processor's list no deadline is armed for a thread's next step, after every lawful step.
-use Rattle.um_refinement.proofs.Words.{has_steps, Act, by_me, ◌≡◌, inl, inr, ℕ, ◌+◌, ◌<◌, Bool, true, false, cond, List, [], ◌∷◌, ◌++◌, length, Option, Some, None, refl, sym, ap, ◌∙◌, subst, ◌==◌, ◌||◌, IsTrue, list_any, if◌then◌else◌, is_some, and_parts, eqb-true, false≢true, true≢false, Image, Told, ThreadIx, own_row, thread_of_row, ROWS, Pending, Thread, Steps, State, thread_at, FineAct, Unseen, Event, More, act_in, is_visit, is_word_read, thread_in, begins_cleaning, says_show, shows, Context, no_context, after_show, after_take, answer_in, continues, filled_up, next_steps, dropped_at, goes_on_by, p_next, row_number, with_cleaned, refilled_by, behind_step, Todo, Todos, cleaning_of, is_cleaning_todo, turn, Processor, Exchange, FineStep, Fine, scheduler, first_ready, has_ready, parked_at, told_at, waits, is_empty, Behind, AreFramed, Fits, Drops, IsOffered, behind_shown, is_over, runs, IsOf, names_row, cpu_of, same_cpu, resumed, unwrap_or, nat_lt, as_thread, own_part}
+use Rattle.um_refinement.proofs.Words.{has_steps, Act, by_me, ◌≡◌, ℕ, ◌+◌, ◌<◌, Bool, true, false, cond, List, [], ◌∷◌, ◌++◌, Option, Some, None, refl, sym, ap, ◌∙◌, subst, ◌==◌, ◌||◌, IsTrue, list_any, if◌then◌else◌, is_some, and_parts, eqb-true, false≢true, true≢false, Image, Told, thread_of_row, ROWS, Pending, Thread, Steps, State, FineAct, Unseen, act_in, is_visit, is_word_read, thread_in, begins_cleaning, says_show, shows, Context, no_context, after_show, after_take, answer_in, continues, filled_up, next_steps, dropped_at, goes_on_by, p_next, row_number, with_cleaned, refilled_by, Todo, Todos, cleaning_of, is_cleaning_todo, turn, Processor, Exchange, FineStep, Fine, scheduler, first_ready, has_ready, parked_at, told_at, waits, is_empty, Behind, AreFramed, Fits, Drops, IsOffered, behind_shown, IsOf, unwrap_or, nat_lt, as_thread}
 use Rattle.um_fine.specs.Follows.{rereads, shown_step}
 use Rattle.um_fine.specs.Answers.{is_killed}
 use Rattle.um_fine.specs.Asks as A
 use Rattle.um_fine.specs.Places.{armed_for, noted_cell, noting, on_memory, put_away, settling}
 use Rattle.um_words.specs.declared.fine.Mark.{Mark}
 use Rattle.um_fine.specs.Scheduler.{is_cut, to_kill}
-use Rattle.um_fine.specs.Runs.{changed}
 use Rattle.um_base.specs.declared.act.Answer.{Answer}
-use Rattle.um_refinement.specs.Frames.{IsActOver}
 use Rattle.um_refinement.specs.Lists.{is_arm}
 use Rattle.um_refinement.specs.Threads.{as_cut}
 use Rattle.um_refinement.specs.Timing.{IsUnarmed, armed_next, is_act, shows_act}
 use Rattle.um_refinement.proofs.ArmSteps.{Acts, Timed}
-use Rattle.um_refinement.proofs.ArmsGone.{IsNone, arming-acts, event-unarmed, offered-none, offered-stands, put-back-none, resumed-none}
+use Rattle.um_refinement.proofs.ArmsGone.{IsNone, arming-acts, event-unarmed, offered-none, put-back-none, resumed-none}
 use Rattle.um_refinement.proofs.ArmsKnown.{AreTimed, Stands, offered-timed}
 use Rattle.um_refinement.proofs.Erased.{around}
 use Rattle.um_refinement.proofs.Kept.{IdleStep, gives, idle-step, ticks as time_goes, turns}
 use Rattle.um_refinement.proofs.Leaves.{Beside, Lawful, Leaves, beside, cuts, expires, leaves as tells_left, ticks as time_passes, times_out, cleans, drops, event, nothing, passes, recycles, resumes}
 use Rattle.um_refinement.proofs.ListGrips.{next-context}
-use Rattle.um_refinement.proofs.ListGrowth.{EndsWell, ReadsLast, acted-kept, claim-kept, claim-context, cleaning-kept, drop-kept, either, ends-behind, goes-kept, is_errand, is_shown, pass-kept, visits_row}
+use Rattle.um_refinement.proofs.ListGrowth.{EndsWell, ReadsLast, acted-kept, claim-kept, claim-context, cleaning-kept, drop-kept, either, ends-behind, goes-kept, is_errand, is_shown, pass-kept}
 use Rattle.um_refinement.proofs.Offered.{NotKilled, Shows, at-made, behind-is, own-same, shown-offers, own-unless, runs-first}
 use Rattle.um_refinement.proofs.ResumeSteps.{TellsWaiters, first-taken, resume-step, takes-turn}
 use Rattle.um_refinement.proofs.SchedulerSteps.{made-says}

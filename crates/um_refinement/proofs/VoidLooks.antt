@@ -1,15 +1,15 @@
 -- A look that finds nobody says so of the machine's thread too: the cell in which a thread waits has those who wait there in the machine, since
 -- who waits on an object holds it.
-use Rattle.um_refinement.proofs.Words.{◌≡◌, ℕ, ◌+◌, ◌<◌, ◌≤◌, Bool, true, false, List, [], ◌∷◌, length, Option, Some, None, refl, sym, ap, ◌∙◌, subst, arith, ◌==◌, ◌&&◌, not, if◌then◌else◌, IsTrue, slice_index_or, eqb-false, eqb-true, eq-eqb, and_from, and_parts, false≢true, not-true, ROWS, THREADS, Row, State, Thread, Waiter, object_at, thread_at, Context, FineAct, Unseen, Exchange, Site, SiteState, site_answers, Fine, bytes, object, row, scheduler, over_processors, parked_at, runs, runs_thread, is_over, total, recyclers, wipers, cell_of, Rel, occurs}
+use Rattle.um_refinement.proofs.Words.{◌≡◌, ℕ, ◌+◌, ◌<◌, Bool, true, false, List, length, Some, refl, sym, ap, ◌∙◌, subst, arith, ◌==◌, if◌then◌else◌, slice_index_or, eqb-false, eqb-true, and_parts, ROWS, THREADS, Row, State, Waiter, object_at, thread_at, Context, FineAct, Unseen, Exchange, Site, SiteState, site_answers, Fine, bytes, object, row, scheduler, parked_at, runs, recyclers, wipers, Rel, occurs}
 use Rattle.um_base.specs.declared.limits.TheConstants.{FUTEX_CELL, JOIN_CELL}
 use Rattle.um_machine.specs.declared.contents.Contents.TheVariants as Contents
 use Rattle.um_machine.specs.State.{is_waiting, waiters_in}
 use Rattle.um_machine.specs.Time.{has_run_out}
 use Rattle.um_words.specs.declared.fine.Mark.{Mark}
-use Rattle.um_fine.specs.Joins.{asleep_at, join_finds}
+use Rattle.um_fine.specs.Joins.{join_finds}
 use Rattle.um_fine.specs.Objects.{object_finds}
 use Rattle.um_fine.specs.Seeking.{finds, looked_for, stands_in}
-use Rattle.um_refinement.specs.Claims.{call_claims, context_claims}
+use Rattle.um_refinement.specs.Claims.{context_claims}
 use Rattle.um_refinement.specs.Fine.{joins}
 use Rattle.um_refinement.specs.Stops.{LiesAt, asleep, notes_in, parked, runs_it}
 use Rattle.um_refinement.proofs.CellSites.{waiting_cell}

@@ -1,10 +1,10 @@
 -- Who waits in a cell after a step of the machine: those who waited there, and the thread of the step where it begins to wait.
-use Rattle.um_refinement.proofs.Words.{◌≡◌, ◌⊎◌, inl, inr, ℕ, zero, suc, Bool, true, false, cond, List, [], ◌∷◌, Option, Some, None, refl, sym, ap, ◌∙◌, subst, arith, ◌==◌, ◌&&◌, ◌||◌, not, if◌then◌else◌, list_all, list_any, and_from, and_parts, eq-eqb, eqb-false, eqb-true, false≢true, true≢false, not-true, not_from_false, Addr, Ask, Answer, Told, ThreadIx, Waiter, Contents, Pending, Steps, Next, State, object_at, thread_at, Effect, wrote, gone, effects_of, next_of, after-is, answer_in}
+use Rattle.um_refinement.proofs.Words.{◌≡◌, ◌⊎◌, inl, inr, ℕ, suc, Bool, true, false, cond, List, [], ◌∷◌, None, refl, sym, ap, ◌∙◌, subst, arith, ◌==◌, ◌&&◌, ◌||◌, not, if◌then◌else◌, list_all, and_parts, eq-eqb, eqb-true, false≢true, true≢false, Ask, Answer, ThreadIx, Waiter, Pending, Steps, Next, State, object_at, thread_at, Effect, wrote, effects_of, next_of, after-is}
 use Rattle.um_base.specs.declared.limits.TheConstants.{FUTEX_CELL, JOIN_CELL}
 use Rattle.um_invariants.proofs.ThreadCells.{IsPut, cell, cell-is, object-put, place_of, waiters-put}
 use Rattle.um_machine.proofs.AfterLemmas.{bytes-leave}
 use Rattle.um_machine.proofs.EffectLemmas.{OfEach, all-wrote, woken-by}
-use Rattle.um_machine.specs.Futexes.{futex_answer, futex_woken}
+use Rattle.um_machine.specs.Futexes.{futex_answer}
 use Rattle.um_machine.specs.Goes.{went}
 use Rattle.um_machine.specs.Joins.{join_answer}
 use Rattle.um_machine.specs.Order.{to_thread}
@@ -12,7 +12,7 @@ use Rattle.um_machine.specs.Services.{in_order, runs_out, without}
 use Rattle.um_machine.specs.State.{waiters_in, with_waiters}
 use Rattle.um_machine.specs.Time.{told_late}
 use Rattle.um_machine.specs.Table as T
-use Rattle.um_machine.specs.Writes.{Edit, Effects, edited, effect, only, says_wait, write}
+use Rattle.um_machine.specs.Writes.{Edit, Effects, edited, effect, only, says_wait}
 use Rattle.um_fine.specs.Seeking.{stands_in}
 use Rattle.um_refinement.proofs.WaitersLeft.{All, acts-all, behind-all, filter-all}
 

@@ -1,13 +1,11 @@
 -- In every state that a run of a described image reaches, the deadline with which a thread waits in a cell is that of its call, and one that waits on
 -- an object holds it: a step leaves the deadline and the claims of each thread that waits then.
-use Rattle.um_refinement.proofs.Words.{◌≡◌, ◌≢◌, ◌⊎◌, ◌<◌, nat_lt, lt-ltb, slice_index_or, ROWS, Addr, Ask, IsTrue, Effect, is_spared, inl, inr, ℕ, Bool, true, false, List, [], ◌∷◌, Option, Some, None, refl, sym, ap, ◌∙◌, subst, ◌==◌, ◌||◌, is_some, not, if◌then◌else◌, list_all, and_from, and_parts, eq-eqb, eqb-false, eqb-true, false≢true, true≢false, not-true, Answer, Event, Image, More, FineAct, ThreadIx, Waiter, Pending, Thread, Steps, Next, State, nobody, thread_at, with_thread, MayChoose, Offers, Runs, begins, exits, goes, opening, skips_drops, skips_inherit, tends, at_set, core_of, IsKnown, IsDescribed, Ignores, all_other, effects_of, next_of, gone, key-same, keys-after, keys-wrote, set-keys, wrote, work_change}
+use Rattle.um_refinement.proofs.Words.{◌≡◌, ◌≢◌, ◌⊎◌, ◌<◌, nat_lt, lt-ltb, slice_index_or, ROWS, Addr, Ask, IsTrue, Effect, is_spared, inl, inr, ℕ, Bool, true, false, List, [], ◌∷◌, Option, Some, None, refl, sym, ap, ◌∙◌, subst, ◌==◌, ◌||◌, is_some, not, if◌then◌else◌, list_all, and_from, and_parts, eq-eqb, eqb-false, eqb-true, false≢true, true≢false, not-true, Answer, Event, Image, More, FineAct, Waiter, Pending, Thread, Steps, Next, State, nobody, thread_at, MayChoose, Offers, Runs, begins, exits, goes, opening, skips_drops, skips_inherit, tends, at_set, core_of, IsKnown, IsDescribed, Ignores, all_other, effects_of, next_of, gone, key-same, keys-after, keys-wrote, wrote, work_change}
 use Rattle.um_base.specs.declared.limits.TheConstants.{FUTEX_CELL, JOIN_CELL}
 use Rattle.um_invariants.proofs.ThreadCells.{cell, cell-is, place_of}
 use Rattle.um_invariants.proofs.ThreadWords.{is_beside}
 use Rattle.um_machine.specs.Goes.{changed, went}
-use Rattle.um_machine.specs.Order.{to_thread}
 use Rattle.um_machine.specs.Run.{is_tending, leaves, stops}
-use Rattle.um_machine.specs.Services.{without}
 use Rattle.um_machine.specs.State.{is_to_resume, is_waiting, waiters_in}
 use Rattle.um_machine.specs.Table as T
 use Rattle.um_machine.specs.Writes.{cut}

@@ -1,11 +1,11 @@
 -- Who waits on an object after an act: only those who waited there, and the caller where its answer is to wait. So what is known of each of them
 -- is so after the act.
 use Rattle.um_refinement.proofs.Words.{◌≡◌, ℕ, ◌+◌, Bool, true, false, refl, if◌then◌else◌, List, [], ◌∷◌, ◌++◌, length, nat_lt, Option, Some, None, not, ◌==◌, list_all, and_parts, and_from, ThreadIx, Waiter, Answer, Ask, Errno, Reply, Told}
-use Rattle.std.specs.Prelude.{◌-◌, cond, drop, filter, nat_le, reverse, take}
+use Rattle.std.specs.Prelude.{◌-◌, cond, filter, nat_le, reverse, take}
 use Rattle.um_base.specs.declared.names.Timeout.{Timeout}
 use Rattle.um_machine.specs.declared.contents.Contents.{Contents}
 use Rattle.um_machine.specs.Contents.{saturated}
-use Rattle.um_machine.specs.Services.{Acted, acted_by, answers, blocks, fills, in_order, is_empty, is_getter, is_putter, is_reader, is_writer, msgq_act, msgq_get, msgq_peek, msgq_put, msgq_take, mutex_act, mutex_lock, mutex_passes, mutex_unlock, pipe, pipe_act, pipe_read, pipe_take, pipe_write, queue, readers_served, renews, sem_act, sem_give, stack, stack_act, stack_pop, stack_push, still_waiting, stopped_act, running_act, timer_stops, uses, without}
+use Rattle.um_machine.specs.Services.{Acted, acted_by, answers, blocks, fills, in_order, is_empty, is_getter, is_putter, is_reader, msgq_act, msgq_get, msgq_peek, msgq_put, msgq_take, mutex_act, mutex_lock, mutex_passes, mutex_unlock, pipe, pipe_act, pipe_read, pipe_take, pipe_write, queue, readers_served, renews, sem_act, sem_give, stack, stack_act, stack_pop, stack_push, still_waiting, stopped_act, running_act, timer_stops, uses, without}
 
 -- so is each of these
 abbrev pub All : (Waiter → Bool) → List Waiter → Type 0
