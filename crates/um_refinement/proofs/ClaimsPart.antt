@@ -31,7 +31,7 @@ use Rattle.um_refinement.proofs.RowClaims.{dropped-claims, row-claims}
 use Rattle.um_refinement.proofs.RunningPart.{is_scheduling}
 use Rattle.um_refinement.proofs.SchedulerSteps.{made-at, made-says}
 use Rattle.um_refinement.proofs.StagedPart.{staged}
-use Rattle.um_refinement.proofs.StatusPart.{free-is}
+use Rattle.um_refinement.proofs.StatusSteps.{free-is}
 use Rattle.um_refinement.proofs.Sums.{over-changed}
 use Rattle.um_refinement.proofs.WordsKept.{IsShown}
 

@@ -22,7 +22,6 @@ use Rattle.um_refinement.proofs.Writes.{Makes, with_cleaner, reserved-objects}
 use Rattle.um_refinement.proofs.ContentsLeft.{AreStripped, beside, idle, in-objects, quiet-part, strip, was, with-notes}
 use Rattle.um_refinement.proofs.ContentsBeside.{on-beside}
 
-
 -- A name is given to a thread object that stands at a static row, or that the call holds.
 abbrev pub NamesHeld : State → Type 0
 NamesHeld m = (t : ℕ) (who : ThreadIx) (rest : Steps) → Offers m t (Pending.Named who) rest → IsStatic m.image (thread_at m t).checked (own_row m.image who.0)

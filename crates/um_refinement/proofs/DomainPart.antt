@@ -476,7 +476,6 @@ module _ (f : Fine) (m : State) (e : FineStep) (law : Lawful f m e) (d : ℕ) (f
   stands-part _ (recycles x rest todo at l said chosen) =
       neither (Todo.recycle x) todo (T.after m p.context.thread x Pending.Recycle rest) at refl
       (domains-same m p.context.thread x Pending.Recycle rest tt) (ap is_init said) (ap is_edit said)
-
   stands-part _ (beside t x q how chosen started) = on-beside t x q how
 
   pub domain-part : (s : State) → Leaves f m e s → DomainIs later s d

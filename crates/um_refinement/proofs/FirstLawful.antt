@@ -137,8 +137,7 @@ module _ (image : Image) (described : IsDescribed image) where
       → (positive (occurs (first_boot image boots) (map (entry image) boots)) ≡ true) × (first_boot image boots < THREADS)
   first-lives [] h some = absurd (omega (arith, some))
   first-lives (boot ∷ boots) h some =
-      let t = entry image boot in
-      (
+      let t = entry image boot in (
         ap (λ c. positive (if c then occurs t (map (entry image) boots) + 1 else occurs t (map (entry image) boots))) (eq-eqb t t refl) ∙ one-more (occurs t (map (entry image) boots)),
         real-below image described.lawful t (boot-is boot (and_parts _ _ h).0).real,
       )

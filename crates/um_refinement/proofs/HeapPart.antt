@@ -257,19 +257,19 @@ module _ (f : Fine) (m : State) (e : FineStep) (law : Lawful f m e) where
       (cost-kept (mine f m e) x q rest tt) (free-kept (mine f m e) x q rest tt)
 
   on-beside : (t x : ℕ) (q : Pending) → Beside f m e t x q → HeapIs later (T.after m t x q (thread_at m t).pending)
-  on-beside _ _ _ (cuts who site before x todo at place inside said) = 
+  on-beside _ _ _ (cuts who site before x todo at place inside said) =
       untouched (T.after m (mine f m e) x (Pending.Cut (to_thread who)) (thread_at m (mine f m e)).pending) (still _ More.Nothing said refl) (pools-same m (mine f m e) x (Pending.Cut (to_thread who)) (thread_at m (mine f m e)).pending tt)
       (cost-kept (mine f m e) x (Pending.Cut (to_thread who)) (thread_at m (mine f m e)).pending tt) (free-kept (mine f m e) x (Pending.Cut (to_thread who)) (thread_at m (mine f m e)).pending tt)
-  on-beside _ _ _ (times_out deadline site x who todo at place inside said) = 
+  on-beside _ _ _ (times_out deadline site x who todo at place inside said) =
       untouched (T.after m (acting f m e) x (Pending.TimeOut who) (thread_at m (acting f m e)).pending) (still _ More.Nothing said refl) (pools-same m (acting f m e) x (Pending.TimeOut who) (thread_at m (acting f m e)).pending tt)
       (cost-kept (acting f m e) x (Pending.TimeOut who) (thread_at m (acting f m e)).pending tt) (free-kept (acting f m e) x (Pending.TimeOut who) (thread_at m (acting f m e)).pending tt)
-  on-beside _ _ _ (expires deadline x todo at inside said) = 
+  on-beside _ _ _ (expires deadline x todo at inside said) =
       untouched (T.after m (acting f m e) x.0 Pending.Expire (thread_at m (acting f m e)).pending) (still _ More.Nothing said refl) (pools-same m (acting f m e) x.0 Pending.Expire (thread_at m (acting f m e)).pending tt)
       (cost-kept (acting f m e) x.0 Pending.Expire (thread_at m (acting f m e)).pending tt) (free-kept (acting f m e) x.0 Pending.Expire (thread_at m (acting f m e)).pending tt)
-  on-beside _ _ _ (ticks at said) = 
+  on-beside _ _ _ (ticks at said) =
       untouched (T.after m (acting f m e) 0 Pending.Tick (thread_at m (acting f m e)).pending) (still _ More.Nothing said refl) (pools-same m (acting f m e) 0 Pending.Tick (thread_at m (acting f m e)).pending tt)
       (cost-kept (acting f m e) 0 Pending.Tick (thread_at m (acting f m e)).pending tt) (free-kept (acting f m e) 0 Pending.Tick (thread_at m (acting f m e)).pending tt)
-  on-beside _ _ _ (leaves todo at said) = 
+  on-beside _ _ _ (leaves todo at said) =
       untouched (T.after m (mine f m e) 0 Pending.Left (thread_at m (mine f m e)).pending) (still _ More.Nothing said refl) (pools-same m (mine f m e) 0 Pending.Left (thread_at m (mine f m e)).pending tt)
       (cost-kept (mine f m e) 0 Pending.Left (thread_at m (mine f m e)).pending tt) (free-kept (mine f m e) 0 Pending.Left (thread_at m (mine f m e)).pending tt)
 

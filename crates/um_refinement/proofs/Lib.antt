@@ -9,6 +9,8 @@
 -- the files named Stuck show that where no processor can step the machine can't either, CompleteRuns what that says of fine runs, and Waiting what one waits for that can't. What they ask for
 -- is so along each fine run where words can count: CallBounds, Bounds and the files of those names have what bounds calls, lists and the scheduler, and
 -- ClearsKnown and the files named Room what follows from that.
+-- Of time, the files named Arm, Clock, Due, Expiry, Mark, Owed, Time and Unarmed; of who waits, Wait; of notes, of cuts and of looks those named Note, Cut and Look;
+-- of who sleeps, Sleep and Rousing; of indices that nobody joins, Shut; and Taking is what a processor does that has no list.
 mod Words
 pub mod Erased
 pub mod ThreadLists
@@ -104,6 +106,8 @@ pub mod SuitsKnown
 pub mod NamesKnown
 pub mod ContentsPart
 pub mod StatusKept
+pub mod StatusSteps
+pub mod StatusUnseen
 pub mod StatusPart
 pub mod ChargedPart
 pub mod CleanerPart
@@ -125,6 +129,7 @@ pub mod Parts
 pub mod ErasedRuns
 pub mod IdleComplete
 pub mod Stuck
+pub mod EventFacts
 pub mod StuckEvents
 pub mod StuckLists
 pub mod StuckComplete
@@ -163,6 +168,7 @@ pub mod RowStands
 pub mod Bounds
 pub mod FirstBounds
 pub mod SchedulerBounds
+pub mod BoundsWoken
 pub mod BoundsKept
 pub mod BoundedRuns
 pub mod CleanRoom

@@ -80,7 +80,7 @@ module _ (image : Image) where
   goes-blocks p e (Todo.show q rest ∷ todo) framed was h =
       show-kept image Are All expands p e q rest todo Are tt waited-blocks framed.0
       (λ z k. let made = shown_step image q e.act in looks-kept image Are errand-blocks (λ x y g. g) p.context made e (behind_step image p.context made e.moved z)
-        (behind-kept image Are errand-blocks (λ x y g. g) p.context made e.moved z k))
+      (behind-kept image Are errand-blocks (λ x y g. g) p.context made e.moved z k))
       (λ read. away-blocks (thread_in e.word).doomed) h
   goes-blocks p e (Todo.clean_pair who x ∷ todo) framed was h =
       elim (nat_lt (x + 1) ROWS) as (λ b. Are (if b then Todo.clean_pair who (x + 1) ∷ todo else todo)) [ true ↦ h | false ↦ h.1 ]

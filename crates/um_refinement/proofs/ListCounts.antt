@@ -143,7 +143,7 @@ module _ (test : Todo → Bool) (of : IsOfEmptying test) where
             let n = Count todo in
             show-kept image (Is n) All (expands n) p e q rest todo (Is n) tt (waited n) over
             (λ z k. let made = shown_step image q e.act in looks-kept image (Is n) (errand n) (ended n) p.context made e (behind_step image p.context made e.moved z)
-              (behind-kept image (Is n) (errand n) (ended n) p.context made e.moved z k))
+            (behind-kept image (Is n) (errand n) (ended n) p.context made e.moved z k))
             ends refl
         by q ends over =
             quiet-kept image (Is (Count todo)) All (expands (Count todo)) p (errand (Count todo)) (put (Count todo)) (λ who x z few k. skips (Todo.clean_pair who x) z refl ∙ k) (λ z k. sym (skips Todo.region_load z refl) ∙ k)

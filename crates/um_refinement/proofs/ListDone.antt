@@ -157,7 +157,7 @@ module _ (image : Image) where
       let there = waits_behind image made e todo in
       let left = filled_up image c there in
       by (filled-ends c there (sym (looks-kept image (Same left) (errand left) (λ x z k. k) p.context made e (behind_step image p.context made e.moved left)
-        (behind-kept image (Same left) (errand left) (λ x z k. k) p.context made e.moved left refl)) ∙ h))
+      (behind-kept image (Same left) (errand left) (λ x z k. k) p.context made e.moved left refl)) ∙ h))
     where
       none : says_done (waits_behind image (shown_step image q e.act) e todo) ≡ false
       none = rereads-done (answer_in (act_in e.act)) (noted_cell image (shown_step image q e.act ∷ [])) todo ∙ (ap says_done behind ∙ shown-none p.context q)

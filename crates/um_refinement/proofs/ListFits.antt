@@ -211,7 +211,7 @@ module _ (image : Image) where
       let there = waits_behind image q e todo in
       record {
         fits = looks-kept image (Fits image c) (errand-fits c) (λ x z k. k) p.context q e (behind_step image p.context q e.moved (filled_up image c there))
-            (behind-kept image (Fits image c) (errand-fits c) (λ x z k. k) p.context q e.moved (filled_up image c there) (filled-fits c there (bare-fits c there (waits-bare q e todo h))))
+            (behind-kept image (Fits image c) (errand-fits c) (λ x z k. k) p.context q e.moved (filled_up image c there) (filled-fits c there (bare-fits c there (waits-bare q e todo h))));
       }
 
   -- one that is found suspended at the begin of its turn is at rest

@@ -152,7 +152,7 @@ module _ (image : Image) where
   goes-framed p e (Todo.show q rest ∷ todo) at bare was h =
       show-kept image Are All expands p e q rest todo Are tt waited-framed h.0
       (λ z k. let made = shown_step image q e.act in looks-kept image Are errand-framed (λ x y g. (tt, g)) p.context made e (behind_step image p.context made e.moved z)
-        (behind-kept image Are errand-framed (λ x y g. (tt, g)) p.context made e.moved z k))
+      (behind-kept image Are errand-framed (λ x y g. (tt, g)) p.context made e.moved z k))
       (λ read. away-framed (thread_in e.word).doomed) h.1
   goes-framed p e (Todo.read_claim d ∷ todo) at bare was h = claim-kept image Are (λ z k. k.1) p e d todo (λ x same. (subst (λ (o : Option ℕ). Behind image (Todo.read_claim o) todo) same h.0, h.1)) h.1
   goes-framed p e (Todo.pass who x ∷ todo) at bare was h = pass-kept image Are All expands p who x todo (λ y few k. (tt, k)) tt h.1

@@ -216,13 +216,17 @@ module _ (image : Image) (test : Todo → Bool) (of : IsOfMarking test) where
       where
         behind : (q : Todo) → Count (q ∷ Todo.reread site ∷ []) ≡ Count (q ∷ [])
         behind q = ap (λ n. if test q then n + 1 else n) (skips (Todo.reread site) [] refl)
-    waited site _ access_alone h =
-        (skips (Todo.read_done None) (Todo.let_go ∷ Todo.reread site ∷ []) refl ∙ (skips Todo.let_go (Todo.reread site ∷ []) refl ∙ (skips (Todo.reread site) [] refl
-        ∙ (sym (skips (Todo.read_done None) (Todo.let_go ∷ []) refl ∙ skips Todo.let_go [] refl) ∙ h.0))), λ e. absurd (false≢true e))
-    waited site _ (access_settled {deadline} {mark}) h =
-        (skips (Todo.read_done None) (Todo.let_go ∷ Todo.settle deadline mark ∷ Todo.reread site ∷ []) refl ∙ (skips Todo.let_go (Todo.settle deadline mark ∷ Todo.reread site ∷ []) refl
-        ∙ (ap (λ n. if test (Todo.settle deadline mark) then n + 1 else n) (skips (Todo.reread site) [] refl)
-        ∙ (sym (skips (Todo.read_done None) (Todo.let_go ∷ Todo.settle deadline mark ∷ []) refl ∙ skips Todo.let_go (Todo.settle deadline mark ∷ []) refl) ∙ h.0))), λ e. absurd (false≢true e))
+    waited site _ access_alone h = (
+      skips (Todo.read_done None) (Todo.let_go ∷ Todo.reread site ∷ []) refl ∙ (skips Todo.let_go (Todo.reread site ∷ []) refl ∙ (skips (Todo.reread site) [] refl
+          ∙ (sym (skips (Todo.read_done None) (Todo.let_go ∷ []) refl ∙ skips Todo.let_go [] refl) ∙ h.0))),
+      λ e. absurd (false≢true e),
+    )
+    waited site _ (access_settled {deadline} {mark}) h = (
+      skips (Todo.read_done None) (Todo.let_go ∷ Todo.settle deadline mark ∷ Todo.reread site ∷ []) refl ∙ (skips Todo.let_go (Todo.settle deadline mark ∷ Todo.reread site ∷ []) refl
+          ∙ (ap (λ n. if test (Todo.settle deadline mark) then n + 1 else n) (skips (Todo.reread site) [] refl)
+          ∙ (sym (skips (Todo.read_done None) (Todo.let_go ∷ Todo.settle deadline mark ∷ []) refl ∙ skips Todo.let_go (Todo.settle deadline mark ∷ []) refl) ∙ h.0))),
+      λ e. absurd (false≢true e),
+    )
 
     pub goes-count : (p : Processor) (e : FineStep) (q : Todo) → Behind image q todo → ReadsLast e q todo → IsCalm (goes_on_by image p e (q ∷ todo)).context
         → Count (goes_on_by image p e (q ∷ todo)).todo ≡ Count todo
@@ -239,7 +243,7 @@ module _ (image : Image) (test : Todo → Bool) (of : IsOfMarking test) where
         by (Todo.show q rest) ends over calm =
             (show-kept image Is IsCalm expands p e q rest todo Is calm waited over
             (λ z k. let made = shown_step image q e.act in looks-kept image Is errand (λ x y h. in-front (Todo.end_call x) y refl h) p.context made e (behind_step image p.context made e.moved z)
-              (behind-kept image Is errand (λ x y h. in-front (Todo.end_call x) y refl h) p.context made e.moved z k))
+            (behind-kept image Is errand (λ x y h. in-front (Todo.end_call x) y refl h) p.context made e.moved z k))
             ends was).0
         by (Todo.read_claim d) ends over calm =
             claim-kept image (λ z. Count z ≡ Count todo) (λ z k. sym (skips Todo.region_load z refl) ∙ k) p e d todo (λ x some. skips (Todo.read_done (Some x)) todo refl) refl

@@ -182,7 +182,7 @@ module _ (image : Image) where
       let b = times todo in
       show-kept image (Times b) All (expands b) p e q rest todo (Times b) tt (waited-times b) h
       (λ z k. let made = shown_step image q e.act in looks-kept image (Times b) (carry b) (λ x y g. g) p.context made e (behind_step image p.context made e.moved z)
-        (behind-kept image (Times b) (carry b) (λ x y g. g) p.context made e.moved z k))
+      (behind-kept image (Times b) (carry b) (λ x y g. g) p.context made e.moved z k))
       (λ read. away-times (thread_in e.word).doomed ∙ ap times (sym (last read))) refl
   goes-times p e Todo.park todo goes h last = absurd (true≢false goes)
   goes-times p e Todo.done todo goes h last = absurd (true≢false goes)
@@ -228,9 +228,10 @@ module _ (image : Image) where
   -- it has steps left after any but the last of a turn; and where it had a mark in its hand, it has
   pub goes-on : (p : Processor) (e : FineStep) (q : Todo) (todo : Todos) → p.todo ≡ q ∷ todo → is_end q ≡ false → Behind image q todo → ReadsLast e q todo → AreBlocks image (q ∷ todo)
       → (has_steps (p_next image p e).todo ≡ true) × (times (p_next image p e).todo ≡ times p.todo)
-  goes-on p e q todo at goes h last blocks =
-      (next-some p e (ap (λ (z : Todos). has_steps (goes_on_by image p e z).todo) at ∙ goes-some p e q todo goes h blocks),
-        next-times-same p e ∙ (ap (λ (z : Todos). times (goes_on_by image p e z).todo) at ∙ (goes-times p e q todo goes h last ∙ sym (ap times at ∙ ap (λ b. b || times todo) (not-end q goes)))))
+  goes-on p e q todo at goes h last blocks = (
+    next-some p e (ap (λ (z : Todos). has_steps (goes_on_by image p e z).todo) at ∙ goes-some p e q todo goes h blocks),
+    next-times-same p e ∙ (ap (λ (z : Todos). times (goes_on_by image p e z).todo) at ∙ (goes-times p e q todo goes h last ∙ sym (ap times at ∙ ap (λ b. b || times todo) (not-end q goes)))),
+  )
 
   pub goes-runs : (p : Processor) (e : FineStep) (q : Todo) (todo : Todos) → p.todo ≡ q ∷ todo → is_end q ≡ false → Behind image q todo → ReadsLast e q todo → AreBlocks image (q ∷ todo)
       → runs (p_next image p e) ≡ runs p

@@ -106,7 +106,7 @@ module _ (image : Image) where
   goes-single p e (Todo.show q rest ∷ todo) framed was o h =
       show-kept image AreSingle IsOrderly expands p e q rest todo AreSingle o waited framed.0
       (λ z k. let made = shown_step image q e.act in looks-kept image AreSingle errand (λ x y g. g) p.context made e (behind_step image p.context made e.moved z)
-        (behind-kept image AreSingle errand (λ x y g. g) p.context made e.moved z k))
+      (behind-kept image AreSingle errand (λ x y g. g) p.context made e.moved z k))
       (λ read. away-single (thread_in e.word).doomed) (tail-single (Todo.show q rest) todo h)
   goes-single p e (q ∷ todo) framed was o h =
       quiet-kept image AreSingle IsOrderly expands p errand put (λ who x z few k. k) (λ z k. k) (λ d z k. k) e q todo refl o (ends-always AreSingle refl away-single (λ c z k. k) e q) h

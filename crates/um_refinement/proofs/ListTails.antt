@@ -156,7 +156,7 @@ module _ {A : Type 0} (image : Image) (read : Todos → A) (none : A) (reads : R
           let v = read todo in
           show-kept image (Is v) All (expands v) p e q rest todo (Is v) tt (λ site z act k. reads.waited site z act ∙ k) over
           (λ z k. let made = shown_step image q e.act in looks-kept image (Is v) (errand v) (ended v) p.context made e (behind_step image p.context made e.moved z)
-            (behind-kept image (Is v) (errand v) (ended v) p.context made e.moved z k))
+          (behind-kept image (Is v) (errand v) (ended v) p.context made e.moved z k))
           ends refl
       by (Todo.read_claim d) other ends over = absurd (true≢false other)
       by (Todo.pass who x) other ends over = pass-kept image (Is (read todo)) All (expands (read todo)) p who x todo (λ y few. put (read todo) (Todo.pass who y) todo refl few) tt refl

@@ -84,7 +84,7 @@ module _ (image : Image) (who : ℕ) where
           let n = At todo in
           show-kept image (Is n) All (expands n) p e q rest todo (Is n) tt (waited n) over
           (λ z k. let made = shown_step image q e.act in looks-kept image (Is n) (errand n) (λ x y g. g) p.context made e (behind_step image p.context made e.moved z)
-            (behind-kept image (Is n) (errand n) (λ x y g. g) p.context made e.moved z k))
+          (behind-kept image (Is n) (errand n) (λ x y g. g) p.context made e.moved z k))
           ends refl
       by (Todo.read_claim d) free ends over = claim-kept image (Is (At todo)) (λ z k. k) p e d todo (λ x at. refl) refl
       by (Todo.clean_pair u x) free ends over = absurd (true≢false free)

@@ -327,7 +327,7 @@ module _ (f : Fine) (m : State) (e : FineStep) (law : Lawful f m e) (tells : Tel
         armed-by q rest todo at (fits q rest todo at).1 deadline (mark_for f.image p.context.thread rest)
         (opens ∙ ap (λ (k : Mark). open_marks d mark (clock f).marks + so deadline k) moved)
         (counts-by q rest todo at (fits q rest todo at).1 (ap is_word_read said) (ap is_killed said) rest
-          (ap (filled_up f.image c) (no-reread (answer_in (act_in e.act)) [])) (waiting-acts rest waiting) deadline (waits-armed c rest deadline waiting refl))
+        (ap (filled_up f.image c) (no-reread (answer_in (act_in e.act)) [])) (waiting-acts rest waiting) deadline (waits-armed c rest deadline waiting refl))
     arms (Pending.ArmTimer ticks) rest todo at on =
         let q = Pending.ArmTimer ticks in
         let said = made-says f m e law (Todo.show q rest ∷ todo) at in
@@ -340,8 +340,8 @@ module _ (f : Fine) (m : State) (e : FineStep) (law : Lawful f m e) (tells : Tel
         armed-by q rest todo at (fits q rest todo at).1 deadline (mark_for f.image p.context.thread rest)
         (opens ∙ ap (λ (k : Mark). open_marks d mark (clock f).marks + so deadline k) moved)
         (counts-by q rest todo at (fits q rest todo at).1 (ap is_word_read said) (ap is_killed said) (to_deadline deadline rest)
-          (ap (filled_up f.image c) (no-reread (answer_in (act_in e.act)) [])) (timer-acts p.context.until deadline rest starts) deadline there.0
-          ∙ ap (so deadline) there.1)
+        (ap (filled_up f.image c) (no-reread (answer_in (act_in e.act)) [])) (timer-acts p.context.until deadline rest starts) deadline there.0
+        ∙ ap (so deadline) there.1)
     arms q rest todo at on = absurd (false≢true on)
 
     pub unsettled-part : Goal d mark

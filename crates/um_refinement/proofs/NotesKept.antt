@@ -163,5 +163,5 @@ module _ (f : Fine) (m : State) (e : FineStep) (law : Lawful f m e) where
   pub notes-part : (s : State) → Leaves f m e s → NotesAre later
   notes-part s left =
       record {
-        places = λ c few. read-kept f m e law length (λ u. Unit {0}) (λ xs u n apart. length-set xs u n) s left (λ q rest todo h. tt) c few ∙ law.rel.notes.places c few
+        places = λ c few. read-kept f m e law length (λ u. Unit {0}) (λ xs u n apart. length-set xs u n) s left (λ q rest todo h. tt) c few ∙ law.rel.notes.places c few;
       }

@@ -412,7 +412,7 @@ module _ {f : Fine} {m : State} {k : ℕ} {e : FineStep} {q : Pending} {rest : S
   shown-offers = by-made (λ z. e.act ≡ shows f.image (f.processors k) z e.act → e.site ≡ site_at f.image (f.processors k) (Todo.show z rest ∷ todo) → Offers m (f.processors k).context.thread z rest)
       (λ killed said site. offers f.image m (f.processors k).context h.rel.image own-same h.listed rest listed-fits.0 visits-over (leaves-rest h.listed said site))
       (λ killed stopping said site.
-          stops-offers f.image m (f.processors k).context h.rel.image own-same h.listed rest stopping listed-fits.0 visits-over h.at_rest (stops-rest killed h.listed refl))
+      stops-offers f.image m (f.processors k).context h.rel.image own-same h.listed rest stopping listed-fits.0 visits-over h.at_rest (stops-rest killed h.listed refl))
       act-is site-is
 
 -- The event of a pending step is that step of the machine, by this row: it says what that step says, and may choose that row.

@@ -259,7 +259,7 @@ module _ (f : Fine) (m : State) (e : FineStep) (law : Lawful f m e) where
             elsewhere-of f m e law s how c.thread few c is.0 refl (rests-on c is.2)
                 (λ mine-on. let one = ap one_if mine-on in true≢false (sym slept ∙ lies-unslept f m law.rel c.thread few e.cpu law.by.named (omega (arith, one))))
                 (λ d told idle moved same.
-                    true≢false (sym slept ∙ parked-unslept f m law.rel c.thread few (subst (λ n. is_some (parked_at (scheduler f) n) ≡ true) same (taken-lies f m e law idle d told moved)))),
+                true≢false (sym slept ∙ parked-unslept f m law.rel c.thread few (subst (λ n. is_some (parked_at (scheduler f) n) ≡ true) same (taken-lies f m e law idle d told moved)))),
             is.1,
             is.2,
             is.3,

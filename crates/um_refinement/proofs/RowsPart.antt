@@ -110,7 +110,7 @@ module _ (image : Image) (named : (a : Addr) → nat_lt (row_named image a) ROWS
   goes-rows p e (Todo.show q rest ∷ todo) at over was b h =
       show-kept image Are All expands p e q rest todo Are tt waited over
       (λ z k. let made = shown_step image q e.act in errands-kept image Are errand p.context made e (behind_step image p.context made e.moved z)
-        (behind-rows p.context made e.moved z (b q rest todo at) k))
+      (behind-rows p.context made e.moved z (b q rest todo at) k))
       (λ read. away-rows (thread_in e.word).doomed) h
   goes-rows p e (q ∷ todo) at over was b h =
       quiet-kept image Are All expands p errand put (λ who x z few k. and_from _ _ few k) (λ z k. k) (λ d z k. k) e q todo refl tt (ends-always Are refl away-rows (λ c z k. k) e q) (tail-are q todo h)

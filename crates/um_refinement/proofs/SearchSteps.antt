@@ -176,8 +176,7 @@ module _ (f : Fine) (m : State) (rel : Rel f m) (waiting : WaitersWait m) (long 
         let cell = object-sort x.0 (f.sites (Site.object x.0)) (rel.sorts (Site.object x.0)) in
         let here = subst (λ (s : SiteState). site_answers f.image s (Exchange.mark deadline mark) act ≡ act) cell.1
         (says-there (Site.object x.0) act (Exchange.mark deadline mark) (made-there (Todo.handle deadline mark) todo at) said (made-moves (Todo.handle deadline mark) todo at)) in
-        let found : has_run_out deadline (object f x.0).contents ≡ true = looked-found _ _ _ _ here in
-        (
+        let found : has_run_out deadline (object f x.0).contents ≡ true = looked-found _ _ _ _ here in (
           found,
           ap (λ z. woken_in (act_in z))
               (ap (λ b. looked_for b (by_actor f.image (f.processors k) (Act.Expire (address_of f.image x.0) (T.replies_of (run_out (object f x.0)).2)))) (sym found) ∙ here),

@@ -144,9 +144,9 @@ module _ (image : Image) (t : ℕ) where
   takes-none p e at own h =
       false≢true
       (next-clears [] p e
-        (subst (λ (z : Todos). P [] (goes_on_by image p e z).todo) (sym at)
-        (take-kept image (P []) (All []) (expands []) p (turn-kept image (P []) (none [] (Todo.show Pending.Begin [] ∷ []) refl) (none [] (Todo.show Pending.Exit [] ∷ []) refl)) (λ deadline mark. none [] (handling deadline mark) refl) e.moved
-          (ap (λ (c : Context). c.thread) (ap (λ (z : Todos). (goes_on_by image p e z).context) (sym at) ∙ sym (next-context image p e)) ∙ own) (none [] [] refl) (subst (P []) (sym at) (none [] [] refl)))) h)
+      (subst (λ (z : Todos). P [] (goes_on_by image p e z).todo) (sym at)
+      (take-kept image (P []) (All []) (expands []) p (turn-kept image (P []) (none [] (Todo.show Pending.Begin [] ∷ []) refl) (none [] (Todo.show Pending.Exit [] ∷ []) refl)) (λ deadline mark. none [] (handling deadline mark) refl) e.moved
+      (ap (λ (c : Context). c.thread) (ap (λ (z : Todos). (goes_on_by image p e z).context) (sym at) ∙ sym (next-context image p e)) ∙ own) (none [] [] refl) (subst (P []) (sym at) (none [] [] refl)))) h)
 
   pub next-behind : (p : Processor) (e : FineStep) (q : Todo) (todo : Todos) → p.todo ≡ q ∷ todo → AreFramed image (q ∷ todo) → (p_next image p e).context.thread ≡ t → clears image t (p_next image p e).todo ≡ true
       → clears image t todo ≡ true

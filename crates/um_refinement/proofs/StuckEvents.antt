@@ -1,5 +1,6 @@
 -- Where a processor can't step, an event that is next moves a thread that is held: its site takes any other one.
-use Rattle.um_refinement.proofs.Words.{are_orderly, waits, FineAct, More, ◌≡◌, inl, inr, ℕ, zero, suc, ◌<◌, Bool, true, false, List, [], ◌∷◌, length, Option, Some, None, refl, sym, ap, ◌∙◌, subst, arith, eq-eqb, ◌==◌, ◌&&◌, ◌||◌, ℤ, not, if◌then◌else◌, is_some, nat_lt, slice_index_or, unwrap_or, list_all, list_any, and_parts, eqb-true, false≢true, lt-ltb, ltb-true, true≢false, or-true, Act, Image, Addr, ROWS, Kind, Mode, Reply, Row, ThreadIx, Want, own_row, row_at, Partitions, Object, Status, Pending, Refusal, Life, Thread, Steps, State, instruction_at, is_living, is_started, object_at, thread_at, vacant, Call, call_is, status_is, Guarded, IsStatic, behind_birth, Stage, is_cleaning, is_free, row_named, allows, check_site, Cell, newborn, Todo, Todos, fails, SiteState, Exchange, Site, reads, Fine, bytes, domain, one_if, row, word, edits, edits_step, has_claimed, has_held, is_hold, is_let_go, moves_to, moving, runs, is_reserved, recyclers, status_of, vacaters, Fits, IsOffered, is_over, Rel, IsHalted, IsOf, is_ended, le-leb, DOMAINS, domain_at, move_reply, Names, bearing, all_behind}
+use Rattle.um_refinement.proofs.EventFacts.{InImage, first-in, edit-in, either-taken, living, inside-objects}
+use Rattle.um_refinement.proofs.Words.{are_orderly, waits, FineAct, More, ◌≡◌, inl, inr, ℕ, ◌<◌, Bool, true, false, [], ◌∷◌, length, Option, Some, None, refl, sym, ap, ◌∙◌, subst, arith, eq-eqb, ◌==◌, ◌&&◌, ◌||◌, ℤ, not, if◌then◌else◌, is_some, nat_lt, unwrap_or, list_all, list_any, and_parts, false≢true, lt-ltb, ltb-true, true≢false, or-true, Act, Image, Addr, ROWS, Kind, Mode, Reply, Row, ThreadIx, Want, own_row, row_at, Partitions, Status, Pending, Refusal, Thread, Steps, State, instruction_at, is_living, object_at, thread_at, Call, call_is, status_is, Guarded, IsStatic, behind_birth, Stage, is_cleaning, is_free, row_named, allows, check_site, Cell, newborn, Todo, Todos, fails, SiteState, Exchange, Site, reads, Fine, bytes, domain, one_if, row, word, edits, edits_step, has_claimed, has_held, is_hold, is_let_go, moves_to, moving, runs, is_reserved, recyclers, status_of, vacaters, Fits, IsOffered, is_over, Rel, IsHalted, IsOf, le-leb, DOMAINS, domain_at, move_reply, Names, bearing, all_behind}
 use Rattle.um_base.specs.declared.names.Access.TheVariants as Access
 use Rattle.um_machine.specs.Objects as Plain
 use Rattle.um_machine.specs.Order.{to_thread}
@@ -40,45 +41,6 @@ AreOrderly m = (t : ℕ) → are_orderly (thread_at m t).pending ≡ true
 abbrev pub IsHeldMove : Fine → ℕ → Pending → Type 0
 IsHeldMove f k (Pending.DomMove d who) = (fails (f.processors k).reply ≡ false) × ((word f who.0).held ≡ true)
 IsHeldMove f k q = ⊥
-
--- The domain that an edit or a move names is one of the image's.
-
-abbrev pub InImage : ℕ → Pending → Type 0
-InImage n (Pending.DomInit d parts) = d < n
-InImage n (Pending.DomAdd d range attr) = d < n
-InImage n (Pending.DomRemove d range attr) = d < n
-InImage n (Pending.DomMove d who) = d < n
-InImage n q = Unit {0}
-
-pub first-in : (image : Image) (checked : List Bool) (q : Pending) (rest : Steps) → Proper image checked (q ∷ rest) → InImage (length image.domains) q
-first-in image checked (Pending.DomInit d parts) rest h = h.0
-first-in image checked (Pending.DomAdd d range attr) rest h = h.0
-first-in image checked (Pending.DomRemove d range attr) rest h = h.0
-first-in image checked (Pending.DomMove d who) rest h = h.0
-first-in image checked q rest h = tt
-
-pub edit-in : (n d : ℕ) (q : Pending) → edits_step d q ≡ true → InImage n q → d < n
-edit-in n d (Pending.DomInit e parts) h l = let same = eqb-true d e h in omega (arith, same, l)
-edit-in n d (Pending.DomAdd e range attr) h l = let same = eqb-true d e h in omega (arith, same, l)
-edit-in n d (Pending.DomRemove e range attr) h l = let same = eqb-true d e h in omega (arith, same, l)
-edit-in n d q h l = absurd (false≢true h)
-
--- an access that is allowed, or a fault
-either-taken : (takes : Act → Bool) (good bad : Act) (b : Bool) → takes good ≡ true → takes bad ≡ true → takes (if b then good else bad) ≡ true
-either-taken takes good bad true h k = h
-either-taken takes good bad false h k = k
-
--- a thread that was started and hasn't ended lives
-living : (life : Life) → is_started life ≡ true → is_ended life ≡ false → is_living life ≡ true
-living Life.Unborn s e = s
-living Life.Living s e = refl
-living Life.Ended s e = sym e
-
--- an object that is reserved stands before the end of its list
-inside-objects : (os : List Object) (x : ℕ) → is_reserved (slice_index_or os x vacant).status ≡ true → x < length os
-inside-objects [] x h = absurd (false≢true h)
-inside-objects (o ∷ os) zero h = omega arith
-inside-objects (o ∷ os) (suc x) h = let l = inside-objects os x h in omega (arith, l)
 
 module _ (f : Fine) (m : State) (rel : Rel f m) (proper : AreProper m.image m) (all : InDomains f m) (sound : IsSound m) (room : HasRoom f) (events : EventsStand f) (orderly : AreOrderly m) where
   -- At the word of the thread.

@@ -16,7 +16,8 @@ use Rattle.um_refinement.proofs.RowSteps.{thread-sort}
 use Rattle.um_refinement.proofs.DomainFacts.{two-parts}
 use Rattle.um_refinement.proofs.StepsLeft.{offered-on}
 use Rattle.um_refinement.proofs.Stuck as S
-use Rattle.um_refinement.proofs.StuckEvents.{AreOrderly, EventsStand, IsHeldMove, edit-in, guarded, offered-in, own-domain}
+use Rattle.um_refinement.proofs.EventFacts.{edit-in}
+use Rattle.um_refinement.proofs.StuckEvents.{AreOrderly, EventsStand, IsHeldMove, guarded, offered-in, own-domain}
 use Rattle.um_refinement.proofs.Stuck.{HasRoom, domain-is}
 use Rattle.um_refinement.proofs.Sums.{one-true}
 
