@@ -1,5 +1,5 @@
 -- A thread at rest that begins a line, or ends, unless it is stopped.
-use Rattle.std.proofs.Common.{◌≡◌, ℕ, ◌+◌, Bool, true, false, [], not, refl, sym, subst, ap, ◌∙◌}
+use Rattle.std.proofs.Common.{◌≡◌, ℕ, ◌+◌, Bool, true, false, List, [], not, refl, sym, subst, ap, ◌∙◌}
 use Rattle.std.specs.Prelude.{◌&&◌, ◌||◌, if◌then◌else◌, is_some}
 use Rattle.std.proofs.lemmas.Bool.{false≢true}
 use Rattle.um_base.specs.declared.act.Act.{Act}
@@ -22,8 +22,9 @@ use Rattle.um_tables.specs.Asked.{by_thread}
 use Rattle.um_tables.specs.ThreadActs.{thread_made}
 use Rattle.um_processor.specs.declared.phase.Phase.{Phase}
 use Rattle.um_processor.specs.declared.running.Running.{Running}
-use Rattle.um_processor.specs.Events.{left_behind, with_ends}
+use Rattle.um_processor.specs.Events.{left_behind, resting_by, rests_by, with_ends}
 use Rattle.um_processor.specs.Processors.{Goes, in_phase, processor_of}
+use Rattle.um_processor.proofs.Lifted.{goes-as}
 
 module _ (image : Image) (cpu : ℕ) (r : Running) (w : ThreadWord) where
   abbrev own : Context
@@ -133,3 +134,90 @@ module _ (image : Image) (cpu : ℕ) (r : Running) (w : ThreadWord) where
   rests-exit false true false h = absurd (false≢true h)
   rests-exit false false true h = refl
   rests-exit false false false h = absurd (false≢true h)
+
+  -- The word that is left shows whether it rests, and what then comes.
+
+  rests-known : (v : ThreadWord) → Shows v → rests_by v ≡ (w.doomed || (w.suspended && not w.aborted))
+  rests-known v h = λ i. h.0 i || (h.2 i && not (h.1 i))
+
+  resting-known : (v : ThreadWord) → Shows v
+      → processor_of (resting_by v r) ≡ processor_of (if w.doomed then record r { phase = Phase.Done } else if w.suspended && not w.aborted then record r { phase = Phase.Sleep } else r)
+  resting-known v h = λ i. processor_of (if h.0 i then record r { phase = Phase.Done } else if h.2 i && not (h.1 i) then record r { phase = Phase.Sleep } else r)
+
+  on-killed : (d a s : Bool) → (d || (s && not a)) ≡ false → a ≡ true → after_begin d a s ≡ ended
+  on-killed true a s h k = absurd (false≢true (sym h))
+  on-killed false true s h k = refl
+  on-killed false false s h k = absurd (false≢true k)
+
+  on-begun : (d a s : Bool) → (d || (s && not a)) ≡ false → a ≡ false
+      → after_begin d a s ≡ left_behind image [] (begun image own (instruction_at image own.place)) own.thread r
+  on-begun true a s h k = absurd (false≢true (sym h))
+  on-begun false true s h k = absurd (false≢true (sym k))
+  on-begun false false true h k = absurd (false≢true (sym h))
+  on-begun false false false h k = refl
+
+  on-ended : (d a s : Bool) → (d || (s && not a)) ≡ false → after_exit d a s ≡ ended
+  on-ended true a s h = absurd (false≢true (sym h))
+  on-ended false true s h = refl
+  on-ended false false true h = absurd (false≢true (sym h))
+  on-ended false false false h = refl
+
+  module _ (t script line : ℕ) (v : ThreadWord) (et : t ≡ own.thread) (es : script ≡ own.place.script) (el : line ≡ own.place.line + 1)
+      (there : is_some (instruction_at image own.place) ≡ true)
+      (ev : v ≡ thread_in (thread_made image cpu t w (ThreadAct.Begin (to_thread t) script line)).word) where
+    left-shows : Shows v
+    left-shows = subst Shows (sym ev) (same-begin t script line et)
+
+    pub begin-rests : (z : Running) → rests_by v ≡ true → z ≡ resting_by v r
+        → Goes cpu image (in_phase Phase.Begin r) (thread_made image cpu t w (ThreadAct.Begin (to_thread t) script line)) (processor_of z)
+    begin-rests z h ez =
+        goes-as cpu image (in_phase Phase.Begin r) (after_begin w.doomed w.aborted w.suspended) (processor_of z) _
+        (ap processor_of ez ∙ resting-known v left-shows ∙ sym (rests-begin w.doomed w.aborted w.suspended (sym (rests-known v left-shows) ∙ h)))
+        (begins-goes t script line et es el there)
+
+    pub begin-killed : (ends : List ℕ) (z : Processor) → rests_by v ≡ false → v.aborted ≡ true → ends ≡ own.claims
+        → z ≡ left_behind image [] (ends_with image own (end_steps image own.thread (as_thread own))) t r
+        → Goes cpu image (in_phase Phase.Begin r) (thread_made image cpu t w (ThreadAct.Begin (to_thread t) script line)) (with_ends ends z)
+    begin-killed ends z h k ec ez =
+        goes-as cpu image (in_phase Phase.Begin r) (after_begin w.doomed w.aborted w.suspended) (with_ends ends z) _
+        ((λ i. with_ends (ec i) ((ez ∙ ap (λ (x : ℕ). left_behind image [] (ends_with image own (end_steps image own.thread (as_thread own))) x r) et) i))
+        ∙ sym (on-killed w.doomed w.aborted w.suspended (sym (rests-known v left-shows) ∙ h) (sym left-shows.1 ∙ k)))
+        (begins-goes t script line et es el there)
+
+    pub begin-begun : (z : Processor) → rests_by v ≡ false → v.aborted ≡ false
+        → z ≡ left_behind image [] (begun image own (instruction_at image own.place)) t r
+        → Goes cpu image (in_phase Phase.Begin r) (thread_made image cpu t w (ThreadAct.Begin (to_thread t) script line)) z
+    begin-begun z h k ez =
+        goes-as cpu image (in_phase Phase.Begin r) (after_begin w.doomed w.aborted w.suspended) z _
+        (ez ∙ ap (λ (x : ℕ). left_behind image [] (begun image own (instruction_at image own.place)) x r) et
+        ∙ sym (on-begun w.doomed w.aborted w.suspended (sym (rests-known v left-shows) ∙ h) (sym left-shows.1 ∙ k)))
+        (begins-goes t script line et es el there)
+
+  module _ (t : ℕ) (v : ThreadWord) (et : t ≡ own.thread) (ev : v ≡ thread_in (thread_made image cpu t w (ThreadAct.Exit (to_thread t))).word) where
+    exit-shows : Shows v
+    exit-shows = subst Shows (sym ev) (same-exit t et)
+
+    pub exit-rests : (z : Running) → rests_by v ≡ true → z ≡ resting_by v r
+        → Goes cpu image (in_phase Phase.Exit r) (thread_made image cpu t w (ThreadAct.Exit (to_thread t))) (processor_of z)
+    exit-rests z h ez =
+        goes-as cpu image (in_phase Phase.Exit r) (after_exit w.doomed w.aborted w.suspended) (processor_of z) _
+        (ap processor_of ez ∙ resting-known v exit-shows ∙ sym (rests-exit w.doomed w.aborted w.suspended (sym (rests-known v exit-shows) ∙ h)))
+        (exits-goes t et)
+
+    pub exit-ended : (ends : List ℕ) (z : Processor) → rests_by v ≡ false → ends ≡ own.claims
+        → z ≡ left_behind image [] (ends_with image own (end_steps image own.thread (as_thread own))) t r
+        → Goes cpu image (in_phase Phase.Exit r) (thread_made image cpu t w (ThreadAct.Exit (to_thread t))) (with_ends ends z)
+    exit-ended ends z h ec ez =
+        goes-as cpu image (in_phase Phase.Exit r) (after_exit w.doomed w.aborted w.suspended) (with_ends ends z) _
+        ((λ i. with_ends (ec i) ((ez ∙ ap (λ (x : ℕ). left_behind image [] (ends_with image own (end_steps image own.thread (as_thread own))) x r) et) i))
+        ∙ sym (on-ended w.doomed w.aborted w.suspended (sym (rests-known v exit-shows) ∙ h)))
+        (exits-goes t et)
+
+-- a thread that doesn't rest is as it was
+pub stays : (v : ThreadWord) (k : Running) → rests_by v ≡ false → resting_by v k ≡ k
+stays v k = by v.doomed (v.suspended && not v.aborted)
+  where
+    by : (d s : Bool) → (d || s) ≡ false → (if d then record k { phase = Phase.Done } else if s then record k { phase = Phase.Sleep } else k) ≡ k
+    by true s h = absurd (false≢true (sym h))
+    by false true h = absurd (false≢true (sym h))
+    by false false h = refl
