@@ -33,7 +33,7 @@ use Rattle.um_refinement.proofs.CallSteps.{Proper}
 use Rattle.um_refinement.proofs.ListWakes.{wakers}
 use Rattle.um_refinement.proofs.ObjectsKept.{found-below}
 use Rattle.um_refinement.proofs.StepsLeft.{offered-on}
-use Rattle.um_refinement.proofs.StuckEvents.{InImage, edit-in, first-in}
+use Rattle.um_refinement.proofs.EventFacts.{InImage, edit-in, first-in}
 use Rattle.um_core.proofs.LeftKnown.{IsLeft}
 use Rattle.um_core.proofs.NamedSteps.{AreNamed, names_thread}
 

@@ -1,6 +1,7 @@
 -- The relation's parts on time, aborts, sleepers, joins and futexes, tested after each step of a worked run.
 use Rattle.std.specs.Prelude.{ℕ, ◌+◌, Bool, true, false, ◌==◌, ◌&&◌, ◌||◌, not, nat_le, nat_lt, List, [], ◌∷◌, ◌++◌, length, Option, Some, None, is_some}
 use Rattle.std.specs.List.{list_all, list_any}
+use Rattle.um_base.specs.declared.image.Image.{Image}
 use Rattle.um_base.specs.declared.limits.TheConstants.{FUTEX_CELL, JOIN_CELL, THREADS}
 use Rattle.um_base.specs.Places.{own_row, thread_of_row}
 use Rattle.um_machine.specs.declared.contents.Contents.{Contents}
@@ -12,7 +13,7 @@ use Rattle.um_words.specs.declared.fine.Mark.{Mark}
 use Rattle.um_fine.specs.Clock.{Marked, deadlines}
 use Rattle.um_fine.specs.Context.{Context}
 use Rattle.um_fine.specs.Joins.{asleep_at, is_joined, is_shut}
-use Rattle.um_fine.specs.Places.{Todo, Todos, is_paid}
+use Rattle.um_fine.specs.Places.{Todo, Todos, is_paid, noted_cell}
 use Rattle.um_fine.specs.Processor.{Processor, actor_or}
 use Rattle.um_fine.specs.Scheduler.{parked_at}
 use Rattle.um_fine.specs.Seeking.{deadline_of}
@@ -20,7 +21,7 @@ use Rattle.um_refinement.specs.Fine.{Fine, bytes, clock, joins, one_if, over_pro
 use Rattle.um_refinement.specs.Lists.{counted, runs_thread, times}
 use Rattle.um_refinement.specs.Objects.{recyclers, wipers}
 use Rattle.um_refinement.specs.Threads.{cutters, runs_on, told_by}
-use Rattle.um_refinement.specs.Stops.{cell_site, clears_own, is_look, is_reread, is_reread_asleep, is_rouse, is_waiting_site, looks_well, noted_at, starts, waits_at}
+use Rattle.um_refinement.specs.Stops.{cell_site, clears_own, is_look, is_reread, is_reread_asleep, is_rouse, is_waiting_site, looks_well, noted_at, notes_in, starts, waits_at}
 use Rattle.um_refinement.specs.Timing.{armed_next, arms, handles, is_left, is_placed, is_sound, left_marks, open_marks, settles, shows_act}
 use Rattle.um_worked_runs.specs.Evaluate.{numbers}
 use Rattle.um_worked_runs.specs.Fine.Compared.{Tested, implies, same_bool, same_numbers, same_option, same_waiters}
@@ -32,6 +33,34 @@ lives _ = false
 abbrev pub has_none : Steps → Bool
 has_none [] = true
 has_none _ = false
+
+-- from here on a call makes no act and arms no deadline, and it ends
+abbrev pub ends : Steps → Bool
+ends [] = false
+ends (Pending.Begin ∷ rest) = false
+ends (Pending.Exit ∷ rest) = false
+ends (Pending.Work a ask ∷ rest) = false
+ends (Pending.Join who timeout ∷ rest) = false
+ends (Pending.FutexWait a value timeout ∷ rest) = false
+ends (Pending.Arm ticks ∷ rest) = false
+ends (Pending.ArmTimer ticks ∷ rest) = false
+ends (Pending.Dooms from ∷ rest) = false
+ends (Pending.EnterUser script ∷ rest) = false
+ends (Pending.Answer reply to ∷ rest) = has_none rest
+ends (Pending.Fatal reason cause ∷ rest) = true
+ends (Pending.Killed ∷ rest) = true
+ends (q ∷ rest) = ends rest
+
+-- the next step is an act that may wait in the cell of this site, and behind it the call ends
+abbrev pub acts_in : Image → ℕ → Steps → Bool
+acts_in image site [] = false
+acts_in image site (Pending.Inherit who ∷ rest) = acts_in image site rest
+acts_in image site (Pending.Drops from ∷ rest) = acts_in image site rest
+acts_in image site (Pending.Arm ticks ∷ rest) = acts_in image site rest
+acts_in image site (q ∷ rest) = same_option (noted_cell image (q ∷ [])) (Some site) && ends rest
+
+abbrev pub has_noted : Image → ℕ → Steps → Bool
+has_noted image site steps = ends steps || acts_in image site steps
 
 abbrev pub is_to_kill : Steps → Bool
 is_to_kill (Pending.Killed ∷ []) = true
@@ -102,8 +131,7 @@ module _ (n : Tested) (f : Fine) (m : State) where
       fits_if t (parked_at (scheduler f) t) && fits_if t (asleep_at (joins f) t)
       && list_all (λ k. implies (runs_on t (f.processors k)) (fits_note t (f.processors k).context)) cpus
       && list_all (λ c. implies (waits_at m t c) (same_option v.note (Some (cell_site c)))) (cells n) && list_all (is_kept t) (cells n)
-      && implies (has_none (thread_at m t).pending) (not (is_some v.note))
-      && elim v.note as (λ _. Bool) [ None ↦ true | Some site ↦ is_waiting_site site ]
+      && elim v.note as (λ _. Bool) [ None ↦ true | Some site ↦ is_waiting_site site && has_noted f.image site (thread_at m t).pending ]
 
   abbrev pub cut_is : ℕ → Bool
   cut_is t =
@@ -183,3 +211,4 @@ module _ (n : Tested) (f : Fine) (m : State) where
       && (scheduler f).owed == over_processors f (λ p. one_if (arms p.todo) + counted is_paid p.todo) + left_marks (clock f).marks
       && same_waiters (joins f).waiters m.joins && same_waiters (bytes f).futexes m.futexes
       && length (scheduler f).cuts == THREADS && length (joins f).shut == THREADS && length (joins f).asleep == THREADS
+      && list_all (λ c. length (notes_in f c) == THREADS) (cells n)

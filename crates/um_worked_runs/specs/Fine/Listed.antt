@@ -13,7 +13,7 @@ use Rattle.um_fine.specs.Scheduler.{waits}
 use Rattle.um_refinement.specs.Frames.{starts_one}
 use Rattle.um_refinement.specs.Lists.{edits_step, has_steps, is_arm, looked}
 use Rattle.um_refinement.specs.Offers.{behind_shown, is_over}
-use Rattle.um_worked_runs.specs.Fine.Compared.{same_option}
+use Rattle.um_worked_runs.specs.Fine.Compared.{implies, same_option}
 
 -- What stands behind a step that belongs to an event.
 
@@ -193,7 +193,8 @@ module _ (image : Image) where
 
   abbrev pub fits : Context → Todos → Bool
   fits c [] = true
-  fits c (Todo.show q rest ∷ todo) = is_offered_of c q rest c.pending && length todo == length (behind_shown image c q)
+  fits c (Todo.show q rest ∷ todo) =
+      is_offered_of c q rest c.pending && length todo == length (behind_shown image c q) && implies (is_some (noted_cell image (q ∷ []))) (is_some c.noted)
   fits c (Todo.pass who x ∷ todo) = passes_on c who todo c.pending && not (x == own_row image c.thread)
   fits c (Todo.drop x ∷ todo) = drops_own c todo c.pending
   fits c (Todo.park ∷ todo) = is_put_back c && not (is_over c) && not (has_steps todo)
