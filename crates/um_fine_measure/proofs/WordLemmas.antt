@@ -1,7 +1,9 @@
 -- What a step does to the words of threads, as far as what all have left reads them: only a step that wakes a thread makes it awake, and only a
 -- suspension makes it suspended. And to who sleeps: only a rouse takes one from there.
-use Rattle.std.proofs.Common.{◌≡◌, ℕ, zero, suc, Bool, true, false, cond, List, [], ◌∷◌, Option, Some, None, refl, sym, ap, ◌∙◌, subst}
+use Rattle.std.proofs.Common.{◌≡◌, ◌<◌, arith, length, ℕ, zero, suc, Bool, true, false, cond, List, [], ◌∷◌, Option, Some, None, refl, sym, ap, ◌∙◌, subst}
 use Rattle.std.specs.Prelude.{◌==◌, ◌&&◌, ◌||◌, not, is_some, if◌then◌else◌, slice_index_or, slice_set}
+use Rattle.std.proofs.lemmas.List.{get_or-set_same}
+use Rattle.um_base.specs.declared.limits.TheConstants.{THREADS}
 use Rattle.std.proofs.lemmas.Bool.{eqb-false, false≢true, true≢false}
 use Rattle.um_base.specs.declared.act.Act.{Act}
 use Rattle.um_machine.specs.State.{State, is_living}
@@ -145,6 +147,20 @@ module _ (f : Fine) (m : State) (rel : Rel f m) (e : FineStep) where
       by false s sort h = h
       by true (SiteState.cell n (Cell.joins j)) sort h = asleep-less j t e.act e.moved off h
       by true s sort h = refl
+
+  -- one who is put to sleep sleeps
+  slept : (s : SiteState) (moved : Exchange) → is_sort Site.joins s ≡ true → (context_in moved).thread < length (joins_state s).asleep
+      → is_some (asleep_at (joins_state (site_after f.image s (FineAct.Unseen Unseen.Sleep) moved)) (context_in moved).thread) ≡ true
+  slept (SiteState.cell n (Cell.joins j)) moved sort few = ap is_some (get_or-set_same j.asleep (context_in moved).thread (Some (context_in moved)) None few)
+  slept s moved sort few = absurd (false≢true sort)
+
+  pub sleeper-put : e.site ≡ Site.joins → e.act ≡ FineAct.Unseen Unseen.Sleep → (t : ℕ) → (context_in e.moved).thread ≡ t → t < THREADS → is_some (asleep_at (joins (later f e)) t) ≡ true
+  sleeper-put at said t same few =
+      let long = rel.joins.asleep in
+      let put = slept (f.sites Site.joins) e.moved (rel.sorts Site.joins) (omega (arith, few, same, long)) in
+      ap (λ i. is_some (asleep_at (joins_state (cond (same_site i Site.joins) (s_next f.image (f.sites Site.joins) e) (f.sites Site.joins))) t)) at
+      ∙ (ap (λ a. is_some (asleep_at (joins_state (site_after f.image (f.sites Site.joins) a e.moved)) t)) said
+      ∙ (ap (λ n. is_some (asleep_at (joins_state (site_after f.image (f.sites Site.joins) (FineAct.Unseen Unseen.Sleep) e.moved)) n)) (sym same) ∙ put))
 
   -- the word that a step leaves
   pub word-left : SiteMay f.image (f.sites e.site) e → e.word ≡ word_of (s_next f.image (f.sites e.site) e)
