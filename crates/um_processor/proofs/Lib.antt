@@ -21,3 +21,4 @@ pub mod Tended
 pub mod Timed
 pub mod Visited
 pub mod Wholes
+pub mod Worked

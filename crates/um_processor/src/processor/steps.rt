@@ -213,6 +213,8 @@ impl Processor {
             (whole self.old) (whole self.new) }
     {
         let here = &Here { image, cpu };
-        self.running.tick(here, sites)
+        took!(self.running.tick(here, sites));
+        self.clears();
+        Turn::Made
     }
 }

@@ -40,7 +40,7 @@ impl Running {
             Phase::StartHold => self.hold(here, Phase::Unshut, sites),
             Phase::Unshut => self.unshut(here, sites),
             Phase::Add => self.add(here, sites),
-            Phase::Park => self.park(here, sites),
+            Phase::Park | Phase::Open => self.park(here, sites),
             Phase::Note => self.note(here, sites),
             Phase::Owe => self.owe(here, sites),
             Phase::Settle => self.settle(here, sites),

@@ -52,7 +52,8 @@ impl Running {
     }
 
     /// Makes the new thread ready.
-    pub fn add<S: Sites>(&mut self, here: &Here, sites: &mut S) -> Turn
+    pub(crate) fn add<S: Sites>(&mut self, here: &Here, sites: &mut S) -> Turn
+        requires at { self.old.phase ≡ Phase.Add }
         requires goes { CanTurn S.Sites here.now sites.old (in_phase Phase.Add self.old) }
         ensures turn { HasRun S.Sites result here.now sites.old sites.new
             (in_phase Phase.Add self.old) self.old self.new }
