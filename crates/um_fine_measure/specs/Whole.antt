@@ -8,9 +8,13 @@ use Rattle.um_words.specs.declared.fine.FineAct.{FineAct}
 use Rattle.um_words.specs.declared.fine.Unseen.{Unseen}
 use Rattle.um_words.specs.Threads.{is_awake}
 use Rattle.um_fine.specs.Answers.{is_word_read, thread_in}
+use Rattle.um_fine.specs.FineRun.{cpu_of, same_cpu, site_of}
+use Rattle.um_fine.specs.Follows.{p_next}
 use Rattle.um_fine.specs.Joins.{asleep_at}
 use Rattle.um_fine.specs.Places.{Todo, Todos}
 use Rattle.um_fine.specs.Processor.{Processor}
+use Rattle.um_fine.specs.Runs.{changed}
+use Rattle.um_fine.specs.Sites.{s_next, same_site}
 use Rattle.um_fine.specs.Steps.{FineStep}
 use Rattle.um_refinement.specs.Fine.{Fine, joins, one_if, over_processors, total, word}
 use Rattle.um_refinement.specs.Lists.{is_sleep}
@@ -38,6 +42,14 @@ rouses_left f = over_processors f (λ p. one_if (may_rouse f p))
 
 abbrev pub whole_cost : Fine → ℕ
 whole_cost f = sleep_cost * sleeps_left f + rouse_cost * rouses_left f
+
+-- the processors and the sites after one more step
+abbrev pub gone_on : Fine → FineStep → Fine
+gone_on f e =
+    record f {
+      processors = changed same_cpu cpu_of (p_next f.image) f.processors e;
+      sites = changed same_site site_of (s_next f.image) f.sites e;
+    }
 
 -- What a step adds to that: another thread may sleep, or each processor may have one to rouse.
 
