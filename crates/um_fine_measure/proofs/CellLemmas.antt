@@ -1,6 +1,6 @@
 -- What a step does to the measure of the cells of memory and of the joins: those who wait, and those who sleep.
-use Rattle.std.proofs.Common.{◌≡◌, ◌<◌, ◌≤◌, ℕ, ◌+◌, ◌*◌, Bool, true, false, List, [], ◌∷◌, ◌++◌, filter, take, length, length-append, map, refl, sym, ap, ◌∙◌, subst, arith, if◌then◌else◌, Option, Some, None}
-use Rattle.std.specs.Prelude.{◌==◌, ◌&&◌, ◌||◌, not, is_some, unwrap_or}
+use Rattle.std.proofs.Common.{◌≡◌, ◌≤◌, ℕ, ◌+◌, Bool, true, false, List, [], ◌∷◌, filter, length, length-append, map, refl, ap, ◌∙◌, subst, arith, if◌then◌else◌, Option, Some, None}
+use Rattle.std.specs.Prelude.{◌==◌, ◌&&◌, ◌||◌, not, is_some}
 use Rattle.std.specs.List.{list_any}
 use Rattle.std.proofs.lemmas.Bool.{and_parts, eqb-true, false≢true, true≢false}
 use Rattle.std.proofs.lemmas.List.{length-map}
@@ -16,24 +16,23 @@ use Rattle.um_machine.specs.Futexes.{is_on, some_of}
 use Rattle.um_machine.specs.Joins.{joins as is_joining}
 use Rattle.um_machine.specs.Services.{in_order, runs_out, told, without}
 use Rattle.um_machine.specs.Table.{replies_of}
-use Rattle.um_measure.specs.Measure.{one_if, total}
+use Rattle.um_measure.specs.Measure.{one_if}
 use Rattle.um_measure.proofs.TotalLemmas.{total-set}
 use Rattle.um_invariants.proofs.Outcomes.{IsFront, nobody, one_more}
-use Rattle.um_machine.specs.declared.served.Served.{Served}
-use Rattle.um_words.specs.CellActs.{join_takes, memory_takes, stops_waiting}
+use Rattle.um_words.specs.CellActs.{join_takes, memory_takes}
 use Rattle.um_words.specs.Extra.{all_in, allowed_in}
 use Rattle.um_words.specs.declared.fine.FineAct.{FineAct}
 use Rattle.um_words.specs.declared.fine.Mark.{Mark}
 use Rattle.um_words.specs.declared.fine.More.{More}
 use Rattle.um_words.specs.declared.fine.Unseen.{Unseen}
 use Rattle.um_fine.specs.Answers.{act_in, caller_in, context_in, is_shut_act, is_void, woken_in}
-use Rattle.um_fine.specs.Context.{Context, no_context}
+use Rattle.um_fine.specs.Context.{Context}
 use Rattle.um_fine.specs.Joins.{Joins, all_joined, asleep_at, join_after, join_finds, join_moves, is_joined, join_says, roused, sleeps}
 use Rattle.um_fine.specs.Memory.{Bytes, memory_after, memory_says, refusal_of, still_there, woken_on}
 use Rattle.um_fine.specs.Seeking.{deadline_of, finds, is_number, is_older, looked_for, stands_in}
 use Rattle.um_fine.specs.Steps.{Exchange}
-use Rattle.um_fine_measure.specs.Measure.{joins_cost, memory_cost, parked_cost, place_cost, waiting_cost}
-use Rattle.um_fine_measure.proofs.Between.{given_by, is_marked, is_sought, joins, taken_by}
+use Rattle.um_fine_measure.specs.Measure.{joins_cost, memory_cost, parked_cost, place_cost}
+use Rattle.um_fine_measure.proofs.Between.{given_by, is_marked, is_sought, taken_by}
 use Rattle.um_fine_measure.proofs.WaiterLemmas.{count, every, filtered, is_among, one-less, ordered, parts, passing, served-front}
 
 -- One that is taken out.

@@ -1,6 +1,6 @@
 -- What the relation with the access-matrix machine says of a processor that makes a step: the machine may offer that event to its thread, and the
 -- scheduler hands over a thread at rest, one that was told something, or one that is to be killed.
-use Rattle.std.proofs.Common.{◌≡◌, ◌⊎◌, inl, inr, ℕ, ◌<◌, Bool, true, false, List, [], ◌∷◌, Option, Some, None, refl, sym, ap, ◌∙◌, subst, arith, eq-eqb, if◌then◌else◌, ◌+◌}
+use Rattle.std.proofs.Common.{◌≡◌, inl, inr, ℕ, ◌<◌, Bool, true, false, List, [], ◌∷◌, Option, Some, None, refl, sym, ap, ◌∙◌, subst, arith, eq-eqb, if◌then◌else◌, ◌+◌}
 use Rattle.std.specs.Prelude.{◌&&◌, ◌||◌, not, IsTrue, is_some, nat_lt, unwrap_or}
 use Rattle.std.specs.List.{list_all}
 use Rattle.std.proofs.lemmas.Bool.{and_parts, false≢true, true≢false}

@@ -28,7 +28,6 @@ use Rattle.um_fine.specs.Continues.{continues, resumed, resumed_at}
 use Rattle.um_fine.specs.Follows.{after_claim, after_show, after_take, behind_step, dropped_at, filled_up, goes_on_by, looks_behind, p_next, refilled_by, row_number, shown_step, told_all, told_marked, waits_behind, wakes, with_actor, with_cleaned}
 use Rattle.um_fine.specs.Places.{Todo, Todos, but, cleaning, drops, next_steps, passes, put_away, turn, turn_of, with_cleaning}
 use Rattle.um_fine.specs.Processor.{Processor, is_of, key_of}
-use Rattle.um_fine.specs.Scheduler.{takes_turn}
 use Rattle.um_fine.specs.Steps.{Exchange, FineStep}
 use Rattle.um_fine_measure.specs.Measure.{ahead_cost, cost_if_running, end_cost, list_cost, processor_cost, rest_cost, rouse_cost, running_cost, shown_cost, steps_cost, todos_cost}
 use Rattle.um_measure.specs.Measure.{one_if}
@@ -37,7 +36,7 @@ use Rattle.um_fine_measure.specs.Whole.{got_by, got_by_read, paid_by, paid_by_ac
 use Rattle.um_fine_measure.proofs.Between.{begun_cost, given_by, given_by_act, taken_by, taken_by_act, taken_cost}
 use Rattle.um_fine_measure.proofs.EventLemmas.{EventFalls, event-falls}
 use Rattle.um_fine_measure.proofs.LeftLemmas.{goes-cost, left_cost, without-cost}
-use Rattle.um_fine_measure.proofs.ListLemmas.{behind-cost, clean-cost, cleaning-cost, drops-cost, filled-cost, left_on, looks-cost, passes-cost, round-cost, running-most, told-cost, unless-cost, waits-cost}
+use Rattle.um_fine_measure.proofs.ListLemmas.{behind-cost, clean-cost, cleaning-cost, drops-cost, filled-cost, left_on, looks-cost, passes-cost, running-most, told-cost, unless-cost, waits-cost}
 use Rattle.um_fine_measure.proofs.RowLemmas.{cost_if}
 
 module _ (image : Image) (p : Processor) (e : FineStep) where

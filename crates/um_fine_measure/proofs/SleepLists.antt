@@ -1,26 +1,24 @@
 -- Where a list puts its thread to sleep, and where it reads the word of one that was put to sleep once more: that is put on a list by a read of a word
 -- alone. A thread that is about to sleep runs.
-use Rattle.std.proofs.Common.{◌≡◌, ℕ, Bool, true, false, [], ◌∷◌, ◌++◌, Option, Some, None, refl, sym, ap, ◌∙◌, subst, if◌then◌else◌}
+use Rattle.std.proofs.Common.{◌≡◌, ℕ, Bool, true, false, [], ◌∷◌, ◌++◌, Option, Some, None, refl, sym, ap, ◌∙◌, subst}
 use Rattle.std.specs.Prelude.{◌||◌}
 use Rattle.std.specs.List.{list_any}
-use Rattle.std.proofs.lemmas.Bool.{false≢true, true≢false}
+use Rattle.std.proofs.lemmas.Bool.{false≢true}
 use Rattle.um_base.specs.declared.image.Image.{Image}
 use Rattle.um_base.specs.Places.{thread_of_row}
 use Rattle.um_machine.specs.declared.pending.Pending.{Pending}
 use Rattle.um_machine.specs.Order.{Steps}
-use Rattle.um_machine.specs.State.{instruction_at}
-use Rattle.um_fine.specs.Answers.{is_word_read, thread_in}
 use Rattle.um_fine.specs.Asks.{begins_cleaning}
 use Rattle.um_fine.specs.Context.{Context}
-use Rattle.um_fine.specs.Follows.{after_take, behind_step, goes_on_by, p_next, row_number, shown_step, with_cleaned}
-use Rattle.um_fine.specs.Places.{Todo, Todos, armed_for, cleaning_of, end_of_turn, fine_steps, is_cleaning_todo, next_steps, put_away, settling}
+use Rattle.um_fine.specs.Follows.{behind_step, goes_on_by, p_next, row_number, shown_step, with_cleaned}
+use Rattle.um_fine.specs.Places.{Todo, Todos, armed_for, cleaning_of, end_of_turn, fine_steps, is_cleaning_todo, next_steps, settling}
 use Rattle.um_fine.specs.Processor.{Processor}
 use Rattle.um_fine.specs.Steps.{FineStep}
-use Rattle.um_refinement.specs.Frames.{AreFramed, Behind, IsActOver}
+use Rattle.um_refinement.specs.Frames.{AreFramed, Behind}
 use Rattle.um_refinement.specs.Lists.{is_sleep, times}
 use Rattle.um_refinement.specs.Offers.{Fits, behind_shown}
 use Rattle.um_refinement.specs.Stops.{is_reread_asleep}
-use Rattle.um_refinement.proofs.ListGrowth.{EndsWell, acted-kept, behind-kept, cleaning-kept, ends-always, forms-kept, is_errand, is_shown, looks-kept, next-kept, quiet-kept, show-kept, take-kept, turn-kept, visits_row}
+use Rattle.um_refinement.proofs.ListGrowth.{EndsWell, acted-kept, behind-kept, cleaning-kept, forms-kept, is_errand, looks-kept, next-kept, quiet-kept, show-kept, take-kept, turn-kept, visits_row}
 
 any-append : (f : Todo → Bool) (q : Todo) → f q ≡ false → (todo : Todos) → list_any f (todo ++ q ∷ []) ≡ list_any f todo
 any-append f q off [] = ap (λ b. b || false) off

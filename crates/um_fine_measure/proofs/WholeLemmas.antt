@@ -1,12 +1,10 @@
 -- What all sites and processors have left together falls by what a lawful step takes of it, but for what the step adds.
-use Rattle.std.proofs.Common.{◌≡◌, ◌<◌, ◌≤◌, ℕ, zero, suc, ◌+◌, ◌*◌, Bool, true, false, cond, List, [], ◌∷◌, Option, Some, None, refl, sym, ap, ◌∙◌, subst, arith, eq-eqb, ne_eqb, if◌then◌else◌}
-use Rattle.std.specs.Prelude.{◌==◌, ◌&&◌, ◌||◌, not, is_some, nat_lt}
+use Rattle.std.proofs.Common.{◌≡◌, ◌<◌, ◌≤◌, ℕ, ◌+◌, Bool, true, false, cond, [], ◌∷◌, refl, sym, ap, ◌∙◌, subst, arith, eq-eqb, ne_eqb, if◌then◌else◌}
+use Rattle.std.specs.Prelude.{◌==◌, ◌&&◌, ◌||◌, not, is_some}
 use Rattle.std.specs.List.{list_any}
 use Rattle.std.proofs.Math.Bool.{and-false, or-true}
-use Rattle.std.proofs.lemmas.Bool.{and_from, and_parts, eqb-false, eqb-true, false≢true, ltb-false, ltb-true, true≢false}
-use Rattle.um_base.specs.declared.act.Act.{Act}
+use Rattle.std.proofs.lemmas.Bool.{and_from, and_parts, eqb-false, eqb-true, false≢true, true≢false}
 use Rattle.um_base.specs.declared.act.Event.{Event}
-use Rattle.um_base.specs.declared.image.Image.{Image}
 use Rattle.um_base.specs.declared.limits.TheConstants.{THREADS}
 use Rattle.um_machine.specs.declared.pending.Pending.{Pending}
 use Rattle.um_machine.specs.Order.{Steps}
@@ -19,7 +17,6 @@ use Rattle.um_words.specs.declared.fine.Unseen.{Unseen}
 use Rattle.um_words.specs.declared.thread_word.ThreadWord.{ThreadWord}
 use Rattle.um_fine.specs.Answers.{context_in, is_killed, is_word_read, thread_in}
 use Rattle.um_fine.specs.Asks.{fits, fits_show, has_room, moves, says, says_show, site_by, site_of_step, stops_rightly}
-use Rattle.um_fine.specs.Context.{Context}
 use Rattle.um_fine.specs.FineRun.{ByOneOf}
 use Rattle.um_fine.specs.Follows.{after_show, p_next, shown_step}
 use Rattle.um_fine.specs.Joins.{asleep_at}
@@ -28,10 +25,10 @@ use Rattle.um_fine.specs.Processor.{Processor}
 use Rattle.um_fine.specs.Sites.{SiteMay, s_next, same_site, word_of}
 use Rattle.um_fine.proofs.Keys.{same-itself}
 use Rattle.um_fine.specs.Steps.{Exchange, FineStep, Site}
-use Rattle.um_refinement.specs.Fine.{Fine, joins, one_if, over_processors, thread_state, total, word}
+use Rattle.um_refinement.specs.Fine.{Fine, joins, one_if, over_processors, thread_state, word}
 use Rattle.um_refinement.specs.Frames.{AreFramed, Behind}
-use Rattle.um_refinement.specs.Lists.{adders, has_steps, is_sleep, of_thread, runs, runs_thread, times}
-use Rattle.um_refinement.specs.Offers.{Fits, IsOffered, behind_shown, is_over}
+use Rattle.um_refinement.specs.Lists.{adders, has_steps, is_sleep, of_thread, runs, times}
+use Rattle.um_refinement.specs.Offers.{Fits, IsOffered, is_over}
 use Rattle.um_refinement.specs.Relation.{Rel}
 use Rattle.um_refinement.specs.Stops.{is_reread_asleep}
 use Rattle.um_refinement.specs.Threads.{runs_on}
@@ -41,72 +38,12 @@ use Rattle.um_refinement.proofs.ListGrowth.{EndsWell, ReadsLast, is_end, is_show
 use Rattle.um_refinement.proofs.PlacesFacts.{lies-once, lies-unslept}
 use Rattle.um_refinement.proofs.Sums.{one-none}
 use Rattle.um_refinement.proofs.TailsKept.{made-there, next-there}
-use Rattle.um_fine_measure.specs.Measure.{MOST_CPUS, rouse_cost, sleep_cost, waking_cost}
+use Rattle.um_fine_measure.specs.Measure.{MOST_CPUS}
 use Rattle.um_fine_measure.specs.Whole.{got_by, may_rouse, may_sleep, paid_by, puts_to_sleep, rouses_left, sleeps_left, whole_cost}
+use Rattle.um_fine_measure.proofs.PartLemmas.{got-parts, got_rouses, got_sleeps, index_of, one-most, other-site, paid-parts, paid_rouses, paid_sleeps, read-act}
 use Rattle.um_fine_measure.proofs.SleepLists.{IsNone, idle-none, next-none, sleep-lives, sleep-runs}
 use Rattle.um_fine_measure.proofs.SumLemmas.{one-less, total-but, total-less, total-more, total-most, total-none, total-part}
-use Rattle.um_fine_measure.proofs.WordLemmas.{awake-less, flag-less, is_suspending, is_waking, rouses_one, sleeper-less, sleeper-put, suspended, suspends_by_act, suspended-less, wakes_by_act, word-left, word-other}
-
--- What a step adds and takes, by sleeps and rouses.
-
-abbrev paid_sleeps : FineAct → ℕ
-paid_sleeps (FineAct.Unseen (Unseen.Rouse who)) = 1
-paid_sleeps act = one_if (is_suspending act)
-
-abbrev paid_rouses : FineAct → ℕ
-paid_rouses act = if is_waking act then MOST_CPUS else 0
-
-abbrev got_sleeps : Todos → FineStep → ℕ
-got_sleeps (Todo.show q rest ∷ todo) e = one_if (is_word_read e.act && not (thread_in e.word).doomed)
-got_sleeps todo e = 0
-
-abbrev got_rouses : Todos → FineStep → ℕ
-got_rouses (Todo.reread_asleep ∷ todo) e = one_if (is_awake (thread_in e.word))
-got_rouses todo e = 0
-
-one-most : (b : Bool) → one_if b ≤ 1
-one-most true = omega arith
-one-most false = omega arith
-
-read-act : (act : FineAct) → is_word_read act ≡ true → act ≡ FineAct.Unseen Unseen.WordRead
-read-act (FineAct.Unseen Unseen.WordRead) h = refl
-read-act (FineAct.Unseen unseen) h = absurd (false≢true h)
-read-act (FineAct.Shown event more) h = absurd (false≢true h)
-
--- the thread whose word is a site
-abbrev index_of : Site → ℕ
-index_of (Site.thread t) = t
-index_of i = 0
-
-other-site : (i : Site) (t : ℕ) → (t ≡ index_of i → ⊥) → same_site i (Site.thread t) ≡ false
-other-site (Site.thread u) t apart = ne_eqb u t (λ same. apart (sym same))
-other-site i t apart = refl
-
-paid-parts : (act : FineAct) → paid_by act ≡ sleep_cost * paid_sleeps act + rouse_cost * paid_rouses act
-paid-parts (FineAct.Shown event more) = by event.act
-  where
-    by : (act : Act) → let said = FineAct.Shown (record event { act = act }) more in paid_by said ≡ sleep_cost * paid_sleeps said + rouse_cost * paid_rouses said
-    by (Act.Abort who done) = refl
-    by (Act.Continue who done) = refl
-    by (Act.Start who) = refl
-    by (Act.Suspend who done) = refl
-    by act = refl
-paid-parts (FineAct.Unseen (Unseen.Rouse who)) = refl
-paid-parts (FineAct.Unseen unseen) = refl
-
-got-parts : (todo : Todos) (e : FineStep) → got_by todo e ≡ sleep_cost * got_sleeps todo e + rouse_cost * got_rouses todo e
-got-parts [] e = refl
-got-parts (Todo.show q rest ∷ todo) e = by (is_word_read e.act && not (thread_in e.word).doomed)
-  where
-    by : (b : Bool) → (if b then sleep_cost else 0) ≡ sleep_cost * one_if b + rouse_cost * 0
-    by true = refl
-    by false = refl
-got-parts (Todo.reread_asleep ∷ todo) e = by (is_awake (thread_in e.word))
-  where
-    by : (b : Bool) → (if b then rouse_cost else 0) ≡ sleep_cost * 0 + rouse_cost * one_if b
-    by true = refl
-    by false = refl
-got-parts (q ∷ todo) e = refl
+use Rattle.um_fine_measure.proofs.WordLemmas.{awake-less, flag-less, is_suspending, is_waking, rouses_one, sleeper-less, sleeper-put, suspended, suspends_by_act, suspended-less, word-left, word-other}
 
 module _ (f : Fine) (m : State) (rel : Rel f m) (e : FineStep) (may : ByOneOf f.image f.cpus (f.processors e.cpu) e) (taken : SiteMay f.image (f.sites e.site) e) where
   abbrev p : Processor

@@ -1,7 +1,7 @@
 -- What a step does to the words of threads, as far as what all have left reads them: only a step that wakes a thread makes it awake, and only a
 -- suspension makes it suspended. And to who sleeps: only a rouse takes one from there.
 use Rattle.std.proofs.Common.{◌≡◌, ◌<◌, arith, length, ℕ, zero, suc, Bool, true, false, cond, List, [], ◌∷◌, Option, Some, None, refl, sym, ap, ◌∙◌, subst}
-use Rattle.std.specs.Prelude.{◌==◌, ◌&&◌, ◌||◌, not, is_some, if◌then◌else◌, slice_index_or, slice_set}
+use Rattle.std.specs.Prelude.{◌==◌, ◌||◌, not, is_some, if◌then◌else◌, slice_index_or, slice_set}
 use Rattle.std.proofs.lemmas.List.{get_or-set_same}
 use Rattle.um_base.specs.declared.limits.TheConstants.{THREADS}
 use Rattle.std.proofs.lemmas.Bool.{eqb-false, false≢true, true≢false}
@@ -9,15 +9,13 @@ use Rattle.um_base.specs.declared.act.Act.{Act}
 use Rattle.um_machine.specs.State.{State, is_living}
 use Rattle.um_words.specs.Threads.{counted_thread, is_awake, thread_after, thread_after_act}
 use Rattle.um_words.specs.declared.fine.FineAct.{FineAct}
-use Rattle.um_words.specs.declared.fine.More.{More}
 use Rattle.um_words.specs.declared.fine.Unseen.{Unseen}
 use Rattle.um_words.specs.declared.thread_word.ThreadWord.{ThreadWord}
-use Rattle.um_fine.specs.Answers.{context_in, thread_in}
+use Rattle.um_fine.specs.Answers.{context_in}
 use Rattle.um_fine.specs.Cells.{Cell}
-use Rattle.um_fine.specs.Context.{Context}
-use Rattle.um_fine.specs.Joins.{Joins, asleep_at, begins_waiting, join_after}
+use Rattle.um_fine.specs.Joins.{Joins, asleep_at, join_after}
 use Rattle.um_fine.specs.Sites.{SiteMay, SiteState, is_sort, s_next, same_site, site_after, site_answers, site_moves, word_of}
-use Rattle.um_fine.specs.Steps.{Exchange, FineStep, Site, Word}
+use Rattle.um_fine.specs.Steps.{Exchange, FineStep, Site}
 use Rattle.um_base.specs.declared.act.Answer.{Answer}
 use Rattle.um_refinement.specs.Fine.{Fine, joins, joins_state, thread_state, word}
 use Rattle.um_refinement.specs.Relation.{Rel}

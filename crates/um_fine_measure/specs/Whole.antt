@@ -1,6 +1,6 @@
 -- What all sites and processors have left together: what no single site and processor know. A suspended thread that doesn't sleep may still be put
 -- to sleep, and a processor that put to sleep a thread that is awake by now is still to rouse it.
-use Rattle.std.specs.Prelude.{ℕ, ◌+◌, ◌*◌, Bool, ◌==◌, ◌&&◌, not, is_some, if◌then◌else◌, [], ◌∷◌}
+use Rattle.std.specs.Prelude.{ℕ, ◌+◌, ◌*◌, Bool, ◌==◌, ◌&&◌, not, is_some, if◌then◌else◌, ◌∷◌}
 use Rattle.std.specs.List.{list_any}
 use Rattle.um_base.specs.declared.act.Act.{Act}
 use Rattle.um_base.specs.declared.limits.TheConstants.{THREADS}
