@@ -1,6 +1,6 @@
 -- Where a processor can't step, its list doesn't begin with a step that its site takes whatever stands there: each step that no trace shows, but
 -- claims of domains, is such a step. Bounds on words and lists are asked for by name, and known of fine runs (RoomKnown).
-use Rattle.um_refinement.proofs.Words.{Row, act_in, address_of, woken_in, Act, ThreadIx, Event, bytes, object, Some, ◌≡◌, inl, inr, ℕ, ◌+◌, ◌-◌, ◌<◌, ◌≤◌, Bool, true, false, ◌∷◌, length, Option, refl, sym, ap, ◌∙◌, subst, arith, eq-eqb, ◌==◌, ◌&&◌, ◌||◌, not, IsTrue, if◌then◌else◌, nat_lt, list_all, list_any, and_parts, false≢true, lt-ltb, ltb-true, Leftover, ROWS, STATIC_ROWS, THREADS, Told, Image, Addr, Kind, Want, Pending, Refusal, Steps, State, object_at, FineAct, More, Unseen, RowWord, Stage, has, is_cleaning, is_dying, is_last, left_of, begins_cleaning, is_dropped, moves, says, site_at, Cell, Context, Todo, Todos, cleanings, Processor, SiteMay, SiteState, is_sort, site_takes, Exchange, FineStep, Site, Fine, domain, domain_state, one_if, parts_state, row, row_state, scheduler, word, counted, has_held, is_end_call, is_hold, is_let_go, is_vacate, names_row, runs, runs_thread, AreFramed, Behind, is_reserved, recyclers, status_of, vacaters, Rel, CanCount, IsHalted, DOMAINS, no_event, no_row, fits_step, made_by, filled, Word, has_number}
+use Rattle.um_refinement.proofs.Words.{Row, act_in, address_of, woken_in, Act, ThreadIx, Event, bytes, object, Some, ◌≡◌, inl, inr, ℕ, ◌+◌, ◌-◌, ◌<◌, ◌≤◌, Bool, true, false, ◌∷◌, length, Option, refl, sym, ap, ◌∙◌, subst, arith, eq-eqb, ◌==◌, ◌&&◌, ◌||◌, not, IsTrue, if◌then◌else◌, nat_lt, list_all, list_any, and_parts, false≢true, lt-ltb, ltb-true, Leftover, ROWS, STATIC_ROWS, THREADS, Told, Image, Addr, Kind, Want, Pending, Refusal, Steps, State, object_at, FineAct, More, Unseen, RowWord, Stage, has, is_cleaning, is_dying, is_last, left_of, begins_cleaning, is_dropped, moves, says, site_at, Cell, Context, Todo, Todos, cleanings, Processor, SiteMay, SiteState, is_sort, site_takes, Exchange, FineStep, Site, Fine, domain, domain_state, one_if, parts_state, row, row_state, scheduler, word, counted, has_held, is_end_call, is_hold, is_let_go, is_vacate, names_row, runs, runs_thread, AreFramed, Behind, is_reserved, recyclers, status_of, vacaters, Rel, CanCount, IsHalted, ByOneOf, DOMAINS, no_event, no_row, fits_step, made_by, filled, Word, has_number}
 use Rattle.um_machine.specs.Objects as Plain
 use Rattle.um_base.specs.declared.limits.TheConstants.{FUTEX_CELL, JOIN_CELL}
 use Rattle.um_machine.specs.Order.{to_thread}
@@ -99,11 +99,18 @@ module _ (f : Fine) (m : State) (rel : Rel f m) (room : HasRoom f) where
   abbrev pub asked : ℕ → FineAct → Exchange → FineStep
   asked k act moved = record { cpu = k; site = Site.scheduler; act = act; word = Word.row no_row; moved = moved }
 
-  -- its site doesn't take that, or the word that is left doesn't fit
-  pub not-taken : (k : ℕ) (todo : Todos) (s : SiteState) (act : FineAct) (moved : Exchange) → IsHalted f k → (f.processors k).todo ≡ todo → f.sites (site_by f.image (with_list k todo) todo act) ≡ s
+  -- a step that the processor makes, and that its site takes
+  pub record IsLawfulOf (k : ℕ) (todo : Todos) (made : FineStep) : Type 0 where
+    pub by : ByOneOf f.image f.cpus (f.processors k) made
+    pub taken : SiteMay f.image (f.sites made.site) made
+    pub there : site_by f.image (with_list k todo) todo made.act ≡ made.site
+
+  -- what it asks for is lawful, if its site takes that and the word that is left fits
+  pub is-lawful : (k : ℕ) (todo : Todos) (s : SiteState) (act : FineAct) (moved : Exchange) → k < f.cpus → (f.processors k).todo ≡ todo → f.sites (site_by f.image (with_list k todo) todo act) ≡ s
       → IsSettled f.image (with_list k todo) todo s moved → let made = filled f.image s (made_by f.image (with_list k todo) (asked k act moved)) in
-      site_takes s made.act ≡ true → fits_step f.image (with_list k todo) todo made ≡ true → ⊥
-  not-taken k todo s act moved l at site is takes fit = l.stuck made refl (record { may = record { makes = makes; fit = λ i. fit-here i && may-clean i }; named = l.inside }) taken
+      site_takes s made.act ≡ true → fits_step f.image (with_list k todo) todo made ≡ true → IsLawfulOf k todo made
+  is-lawful k todo s act moved inside at site is takes fit =
+      record { by = record { may = record { makes = makes; fit = λ i. fit-here i && may-clean i }; named = inside }; taken = taken; there = all.2 }
     where
       p : Processor
       p = f.processors k
@@ -136,7 +143,14 @@ module _ (f : Fine) (m : State) (rel : Rel f m) (room : HasRoom f) where
         where
           by : (b : Bool) → begins_cleaning made ≡ b → (not b || nat_lt (cleanings p.todo) (ROWS - STATIC_ROWS)) ≡ true
           by false e = refl
-          by true e = lt-ltb (cleanings p.todo) (ROWS - STATIC_ROWS) (room.cleaned k made l.inside makes taken e)
+          by true e = lt-ltb (cleanings p.todo) (ROWS - STATIC_ROWS) (room.cleaned k made inside makes taken e)
+
+  -- so its site doesn't take that, or the word that is left doesn't fit, where it can't step
+  pub not-taken : (k : ℕ) (todo : Todos) (s : SiteState) (act : FineAct) (moved : Exchange) → IsHalted f k → (f.processors k).todo ≡ todo → f.sites (site_by f.image (with_list k todo) todo act) ≡ s
+      → IsSettled f.image (with_list k todo) todo s moved → let made = filled f.image s (made_by f.image (with_list k todo) (asked k act moved)) in
+      site_takes s made.act ≡ true → fits_step f.image (with_list k todo) todo made ≡ true → ⊥
+  not-taken k todo s act moved l at site is takes fit =
+      let lawful = is-lawful k todo s act moved l.inside at site is takes fit in l.stuck (filled f.image s (made_by f.image (with_list k todo) (asked k act moved))) refl lawful.by lawful.taken
 
   abbrev pub plain : FineAct
   plain = FineAct.Unseen Unseen.Visit

@@ -1,6 +1,7 @@
 -- Where a processor can't step, it waits with nothing, a claim of a domain, or an event: a hold is never refused, a claim waits for one that writes or reads its domain, a
--- move for one that holds its thread. Where none can step, no processor has a step left to make: those have steps to make that wait for nobody.
-use Rattle.um_refinement.proofs.Words.{Addr, Image, ROWS, row_at, row_named, unwrap_or, is_some, ◌≡◌, ◌⊎◌, inl, inr, ℕ, zero, suc, ◌+◌, ◌<◌, ◌≤◌, Bool, true, false, [], ◌∷◌, length, Option, Some, None, refl, sym, ap, ◌∙◌, subst, arith, eq-eqb, ◌==◌, ◌&&◌, ◌||◌, not, nat_lt, list_any, and_parts, eqb-true, false≢true, lt-ltb, ltb-true, true≢false, or-true, THREADS, Reply, ThreadIx, Pending, Steps, is_empty, State, Context, ByOneOf, Todo, Todos, fails, SiteState, Exchange, Site, reads, Fine, domain, one_if, over_processors, word, AreFramed, Behind, access_over, adders, edits, edits_step, has_claimed, has_held, is_hold, is_let_go, is_own_claim, is_own_done, moves_step, moves_to, of_thread, runs, runs_thread, Fits, behind_shown, is_over, Rel, IsHalted, IsStuck, runs_on, ⊎_elim, claimed_domain}
+-- move for one that holds its thread. Where none that has a list can step, no processor has a step left to make: those have steps to make that wait for
+-- nobody.
+use Rattle.um_refinement.proofs.Words.{Addr, Image, ROWS, row_at, row_named, unwrap_or, is_some, ◌≡◌, ◌⊎◌, inl, inr, ℕ, zero, suc, ◌+◌, ◌<◌, ◌≤◌, Bool, true, false, [], ◌∷◌, length, Option, Some, None, refl, sym, ap, ◌∙◌, subst, arith, eq-eqb, ◌==◌, ◌&&◌, ◌||◌, not, nat_lt, list_any, and_parts, eqb-true, false≢true, lt-ltb, ltb-true, true≢false, or-true, THREADS, Reply, ThreadIx, Pending, Steps, is_empty, State, Context, ByOneOf, Todo, Todos, fails, SiteState, Exchange, Site, reads, Fine, domain, one_if, over_processors, word, AreFramed, Behind, access_over, adders, edits, edits_step, has_claimed, has_held, has_steps, is_hold, is_let_go, is_own_claim, is_own_done, moves_step, moves_to, of_thread, runs, runs_thread, Fits, behind_shown, is_over, Rel, IsHalted, IsStuck, runs_on, ⊎_elim, claimed_domain}
 use Rattle.um_words.specs.declared.fine.Mark.{Mark}
 use Rattle.um_words.specs.declared.kind.TheConstants.{SITES}
 use Rattle.um_fine.specs.Places.{if_patient, is_patient, may_wait, noted_cell}
@@ -278,17 +279,22 @@ module _ (f : Fine) (m : State) (rel : Rel f m) (proper : AreProper m.image m) (
           (S.not-taken f m rel room k (Todo.write_claim d ∷ rest) _ (S.plain f m rel room) Exchange.nothing l at is tt
           (λ i. S.counts f m rel room (Site.domain d) _ is i && (not (free i) && eq-eqb (domain f d).readers 0 none i)) refl)
 
+-- no processor with a list can step
+abbrev pub IsHalting : Fine → Type 0
+IsHalting f = (k : ℕ) → k < f.cpus → has_steps (f.processors k).todo ≡ true → IsHalted f k
+
 -- where none can step, each one can't
 pub halts : (f : Fine) → IsStuck f → (k : ℕ) → k < f.cpus → IsHalted f k
 halts f stuck k l = record { inside = l; stuck = λ e same may taken. stuck e (subst (λ (n : ℕ). ByOneOf f.image f.cpus (f.processors n) e) (sym same) may) taken }
 
-module _ (f : Fine) (m : State) (rel : Rel f m) (proper : AreProper m.image m) (all : InDomains f m) (sound : IsSound m) (room : HasRoom f) (events : EventsStand f) (orderly : AreOrderly m) (stuck : IsStuck f) where
+module _ (f : Fine) (m : State) (rel : Rel f m) (proper : AreProper m.image m) (all : InDomains f m) (sound : IsSound m) (room : HasRoom f) (events : EventsStand f) (orderly : AreOrderly m) (halting : IsHalting f) where
   halted : (k : ℕ) (todo : Todos) → k < f.cpus → (f.processors k).todo ≡ todo → Waits todo
-  halted k todo l at = only f m rel proper all sound room events orderly k todo (halts f stuck k l) at
+  halted k [] l at = tt
+  halted k (q ∷ todo) l at = only f m rel proper all sound room events orderly k (q ∷ todo) (halting k l (ap has_steps at)) at
 
   -- An event that is next moves a thread that is held.
   no-event : (k : ℕ) (q : Pending) (rest : Steps) (todo : Todos) → k < f.cpus → (f.processors k).todo ≡ Todo.show q rest ∷ todo → (IsHeldMove f k q → ⊥) → ⊥
-  no-event k q rest todo l at other = other (guarded f m rel proper all sound room events orderly k q rest todo (halts f stuck k l) at)
+  no-event k q rest todo l at other = other (guarded f m rel proper all sound room events orderly k q rest todo (halting k l (ap has_steps at)) at)
 
   -- Nobody writes a domain: who does has an event next.
 
@@ -376,12 +382,12 @@ module _ (f : Fine) (m : State) (rel : Rel f m) (proper : AreProper m.image m) (
 
   read-claim : (k : ℕ) (which : Option ℕ) (rest : Todos) → k < f.cpus → (f.processors k).todo ≡ Todo.read_claim which ∷ rest → ⊥
   read-claim k which rest l at =
-      let waits = read-waits f m rel proper all sound room events orderly k which rest (halts f stuck k l) at in
+      let waits = read-waits f m rel proper all sound room events orderly k which rest (halting k l (ap has_steps at)) at in
       true≢false (sym waits.1 ∙ no-writer (claimed_domain f.image (f.processors k) which) waits.0)
 
   write-claim : (k d : ℕ) (rest : Todos) → k < f.cpus → (f.processors k).todo ≡ Todo.write_claim d ∷ rest → ⊥
   write-claim k d rest l at =
-      let waits = write-waits f m rel proper all sound room events orderly k d rest (halts f stuck k l) at in
+      let waits = write-waits f m rel proper all sound room events orderly k d rest (halting k l (ap has_steps at)) at in
       ⊎_elim (λ writes. true≢false (sym writes ∙ no-writer d waits.0)) (λ some. let none = no-reader d waits.0 in omega (arith, some, none)) waits.1
 
   -- Nobody holds a thread: who does has an event next, and no move.

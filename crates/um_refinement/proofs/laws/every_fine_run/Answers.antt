@@ -1,3 +1,4 @@
+use Rattle.um_refinement.proofs.ChosenStuck.{chosen-runs}
 use Rattle.um_refinement.proofs.CompleteRuns.{complete-runs}
 use Rattle.um_refinement.proofs.ErasedRuns.{erased-runs}
 use Rattle.um_refinement.proofs.Waiting.{waits-for}
@@ -8,6 +9,9 @@ returns-clause-run c = λ image cpus steps described run. erased-runs image cpus
 
 pub returns-clause-complete : goal.returns-clause-complete
 returns-clause-complete c = λ image cpus steps described can run stuck counts. complete-runs image cpus described can steps run counts stuck
+
+pub returns-clause-chosen : goal.returns-clause-chosen
+returns-clause-chosen c = λ image cpus steps described can run counts none. chosen-runs image cpus described can steps run counts none
 
 pub returns-clause-waits : goal.returns-clause-waits
 returns-clause-waits c = λ image cpus steps described can run counts k halted. waits-for image cpus described can steps run counts k halted
