@@ -1,4 +1,6 @@
 use Rattle.std.proofs.Common.{ap, drop, ◌∙◌}
+use Rattle.um_fine.specs.Processor.{Processor}
+use Rattle.um_tables.specs.declared.here.Here.{Here}
 use Rattle.um_processor.specs.declared.phase.Turn.TheVariants as Turn
 use Rattle.um_processor.specs.Processors.{processor_of}
 use Rattle.um_processor.specs.Standing.{standing}
@@ -17,25 +19,32 @@ returns g c =
     let clear = c.clears.ensures.clear in
     let new = bare _ _ _ _ clear.cleans clear.ends clear.woken ∙ ap processor_of c.clears.ensures.running in
     let h = c.in-Made.ensures.turn in
-    record { image = h.0; same = tt; turn = tended g.S.Sites Turn.Made _ c.args.sites.now c.tick.new.sites c.args.self.now c.tick.new.self _ c.requires.idle h new }
+    let here : Here = record { image = c.args.image; cpu = c.args.cpu } in
+    record { image = h.0; same = tt; turn = tended g.S.Sites Turn.Made here c.args.sites.now c.tick.new.sites c.args.self.now c.tick.new.self _ c.requires.idle h new }
 
 pub returns-in-Busy : goal.returns-in-Busy
 returns-in-Busy g c =
     let k = c.args.self.now in
+    let here : Here = record { image = c.args.image; cpu = c.args.cpu } in
+    let left : Processor → Processor = standing k.cleans k.ends.items (drop k.told k.outcome.woken) in
     let h = c.in-Busy.ensures.turn in
-    let same = ap (standing k.cleans k.ends.items (drop k.told k.outcome.woken)) h.1 in
-    record { image = h.0; same = same; turn = tended g.S.Sites Turn.Busy _ c.args.sites.now c.tick.new.sites k c.tick.new.self _ c.requires.idle h tt }
+    let same = ap left h.1 in
+    record { image = h.0; same = same; turn = tended g.S.Sites Turn.Busy here c.args.sites.now c.tick.new.sites k c.tick.new.self (left (processor_of c.tick.new.self)) c.requires.idle h tt }
 
 pub returns-in-Changed : goal.returns-in-Changed
 returns-in-Changed g c =
     let k = c.args.self.now in
+    let here : Here = record { image = c.args.image; cpu = c.args.cpu } in
+    let left : Processor → Processor = standing k.cleans k.ends.items (drop k.told k.outcome.woken) in
     let h = c.in-Changed.ensures.turn in
-    let same = ap (standing k.cleans k.ends.items (drop k.told k.outcome.woken)) h.1 in
-    record { image = h.0; same = same; turn = tended g.S.Sites Turn.Changed _ c.args.sites.now c.tick.new.sites k c.tick.new.self _ c.requires.idle h tt }
+    let same = ap left h.1 in
+    record { image = h.0; same = same; turn = tended g.S.Sites Turn.Changed here c.args.sites.now c.tick.new.sites k c.tick.new.self (left (processor_of c.tick.new.self)) c.requires.idle h tt }
 
 pub returns-in-Stuck : goal.returns-in-Stuck
 returns-in-Stuck g c =
     let k = c.args.self.now in
+    let here : Here = record { image = c.args.image; cpu = c.args.cpu } in
+    let left : Processor → Processor = standing k.cleans k.ends.items (drop k.told k.outcome.woken) in
     let h = c.in-Stuck.ensures.turn in
-    let same = ap (standing k.cleans k.ends.items (drop k.told k.outcome.woken)) h.1 in
-    record { image = h.0; same = same; turn = tended g.S.Sites Turn.Stuck _ c.args.sites.now c.tick.new.sites k c.tick.new.self _ c.requires.idle h tt }
+    let same = ap left h.1 in
+    record { image = h.0; same = same; turn = tended g.S.Sites Turn.Stuck here c.args.sites.now c.tick.new.sites k c.tick.new.self (left (processor_of c.tick.new.self)) c.requires.idle h tt }
