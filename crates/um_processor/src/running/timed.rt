@@ -13,7 +13,9 @@ use um_words::Mark;
 
 /// The sites of the cells of memory and of the joins, and of the object of row 0.
 const MEMORY: u16 = 304;
+
 const JOINS: u16 = 308;
+
 const OBJECTS: u16 = 168;
 
 /// Whether a call waits that can't go on.
