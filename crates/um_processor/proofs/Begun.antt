@@ -6,7 +6,6 @@ use Rattle.um_base.specs.declared.act.Act.{Act}
 use Rattle.um_base.specs.declared.image.Image.{Image}
 use Rattle.um_machine.specs.Order.{end_steps, to_thread}
 use Rattle.um_machine.specs.State.{instruction_at}
-use Rattle.um_words.specs.declared.fine.FineAct.{FineAct}
 use Rattle.um_words.specs.declared.fine.More.{More}
 use Rattle.um_words.specs.declared.thread_act.ThreadAct.{ThreadAct}
 use Rattle.um_words.specs.declared.thread_word.ThreadWord.{ThreadWord}

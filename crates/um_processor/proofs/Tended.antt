@@ -10,7 +10,7 @@ use Rattle.um_processor.specs.declared.phase.Turn.{Turn}
 use Rattle.um_processor.specs.declared.processor.Processor.{Processor as Kept}
 use Rattle.um_processor.specs.declared.running.Running.{Running}
 use Rattle.um_processor.specs.Phases.{is_idle}
-use Rattle.um_processor.specs.Processors.{Goes, OnMade, TurnedAt, UnlessMade, in_phase, processor_of}
+use Rattle.um_processor.specs.Processors.{Goes, OnMade, TurnedAt, in_phase, processor_of}
 use Rattle.um_processor.specs.Standing.{whole}
 use Rattle.um_processor.specs.Turns.{HasTended, MayTurn, TendsAt}
 use Rattle.um_processor.proofs.Lifted.{idle-whole}

@@ -59,7 +59,10 @@ impl Processor {
         ensures turn { HasStepped S.Sites result here.now sites.old sites.new
             (shows (Pending.FutexWake addr all) self.old.running) self.old self.new }
     {
-        took!(self.running.futex_wake(here, addr, all, &mut self.outcome, sites));
+        took!(
+            self.running
+                .futex_wake(here, addr, all, &mut self.outcome, sites)
+        );
         self.told = 0;
         Turn::Made
     }

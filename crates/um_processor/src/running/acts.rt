@@ -19,6 +19,7 @@ use um_tables::{FutexWait, FutexWake, Here, Seeker, Sites};
 
 /// The sites of the cells of memory and of the joins.
 const MEMORY: u16 = 304;
+
 const JOINS: u16 = 308;
 
 impl Running {

@@ -30,7 +30,12 @@ fn line_number(image: &Image, place: Place) -> Option<u16>
 impl Running {
     /// Has the thread begin its line, unless it is stopped: a doomed thread stops running, one that was aborted is killed, so that the claims of its
     /// call are to end, and one that is suspended goes to sleep.
-    pub fn begin<S: Sites>(&mut self, here: &Here, ends: &mut ArrayVec<u8, 2>, sites: &mut S) -> Turn
+    pub fn begin<S: Sites>(
+        &mut self,
+        here: &Here,
+        ends: &mut ArrayVec<u8, 2>,
+        sites: &mut S,
+    ) -> Turn
         requires given { IsGiven here.now.image.now }
         requires none { ends.old.items ≡ [] }
         requires goes { CanTurn S.Sites here.now sites.old (in_phase Phase.Begin self.old) }

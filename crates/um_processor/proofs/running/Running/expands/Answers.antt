@@ -2,7 +2,6 @@ use Rattle.std.proofs.Common.{◌≡◌, ◌∷◌, drop, false, ap, sym, subst,
 use Rattle.um_machine.specs.declared.pending.Pending.TheVariants as Pending
 use Rattle.um_fine.specs.Context.{Context}
 use Rattle.um_processor.specs.declared.phase.Phase.{Phase}
-use Rattle.um_processor.specs.declared.running.Running.{Running}
 use Rattle.um_processor.specs.Phases.{first_phase, is_direct}
 use Rattle.um_processor.specs.Processors.{processor_of}
 use Rattle.um_processor.proofs.Expanded.{direct-goes}

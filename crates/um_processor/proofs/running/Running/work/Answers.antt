@@ -5,7 +5,6 @@ use Rattle.um_processor.specs.declared.running.Running.{Running}
 use Rattle.um_processor.specs.Processors.{processor_of}
 use Rattle.um_processor.proofs.Runs.{runs-left}
 use Rattle.um_processor.proofs.Worked.{behind_work, work-goes}
-use Rattle.um_base.specs.declared.image.Image.{Image}
 use Rattle.um_tables.specs.ObjectCells.{outcome_by}
 use Rattle.um_processor.proofs.running.Running.work.Goals as goal
 
