@@ -18,7 +18,7 @@ use Rattle.um_base.specs.Lawful.{is_within, is_name, is_name_byte, is_register, 
 use Rattle.um_document.proofs.EmptyLists.{and_true}
 use Rattle.um_script.specs.Canonical.{Operand, operands_of, mnemonic, canonical, term_text, named_text, part_text, timeout_text, offset_text, with_parts, with_operand, with_operands, options_by, options_word}
 use Rattle.um_script.specs.declared.mnemonic.Mnemonic.{Mnemonic}
-use Rattle.um_script.specs.Instructions.{spelling, is_offered}
+use Rattle.um_script.specs.Instructions.{spelling}
 use Rattle.um_script.specs.Numbers.{is_digit}
 use Rattle.um_script.specs.Operands.{Form, Times, Register, Size, AnyTerm, Named, Part, Parts, ObjectKind, Wait, HowMany, Priority, OptionSet, Value, how_many_word}
 use Rattle.um_vocabulary.specs.Words.{attr_word, kind_word, is_place_name}
@@ -166,4 +166,4 @@ spelling_plain _ = refl
 
 pub line_plain : (line : Instr) → IsTrue (is_line line) → is_plain (canonical line) ≡ true
 line_plain line h =
-    operands_plain (spelling (mnemonic line)) (operands_of line) (spelling_plain (mnemonic line)) (and_true (is_offered (mnemonic line)) (all_fit (operands_of line)) h).1
+    operands_plain (spelling (mnemonic line)) (operands_of line) (spelling_plain (mnemonic line)) h

@@ -9,7 +9,7 @@ use Rattle.um_base.specs.declared.names.PartRef.{PartRef}
 use Rattle.um_script.specs.declared.fault.LineFault.{LineFault}
 use Rattle.um_script.specs.declared.mnemonic.Mnemonic.{Mnemonic}
 use Rattle.um_script.specs.Canonical.{Operand, part_text, with_parts, with_operand, with_operands, term_text, named_text, timeout_text, options_word, mnemonic, operands_of, canonical}
-use Rattle.um_script.specs.Instructions.{spelling, syntax, is_offered}
+use Rattle.um_script.specs.Instructions.{spelling, syntax}
 use Rattle.um_script.specs.Lines.{mnemonic_of, whole, behind_first, line_of_words, line_of}
 use Rattle.um_script.specs.Numbers.{times, priority}
 use Rattle.um_script.specs.Operands.{Form, Times, Register, Size, AnyTerm, Named, Part, Parts, ObjectKind, Wait, HowMany, Priority, OptionSet, Value, Syntax, takes, makes, operand, reading, part, parts, register, size, term, named, kind, timeout, how_many, how_many_word, options}
@@ -202,24 +202,17 @@ record IsMnemonic (m : Mnemonic) : Type 0 where
   known : mnemonic_of (spelling m) ≡ Some m
   one_word : IsWord (spelling m)
 
-is_mnemonic : (m : Mnemonic) → IsTrue (is_offered m) → IsMnemonic m
-is_mnemonic Mnemonic.End h = record { known = refl; one_word = record { bytes = refl; some = lit< tt } }
-is_mnemonic Mnemonic.Abort h = absurd cc
-is_mnemonic Mnemonic.Join h = absurd cc
-is_mnemonic Mnemonic.Suspend h = absurd cc
-is_mnemonic Mnemonic.Continue h = absurd cc
-is_mnemonic Mnemonic.FutexWait h = absurd cc
-is_mnemonic Mnemonic.FutexWake h = absurd cc
-is_mnemonic _ h = record { known = refl; one_word = record { bytes = refl; some = lit< tt } }
+is_mnemonic : (m : Mnemonic) → IsMnemonic m
+is_mnemonic Mnemonic.End = record { known = refl; one_word = record { bytes = refl; some = lit< tt } }
+is_mnemonic _ = record { known = refl; one_word = record { bytes = refl; some = lit< tt } }
 
 -- the canonical line of an instruction that lines can give is read back to it
 pub canonical_again : (instr : Instr) → IsTrue (is_line instr) → line_of (canonical instr) ≡ Ok instr
 canonical_again instr h =
-    let both = and_true (is_offered (mnemonic instr)) (all_fit (operands_of instr)) h in
-    let first = is_mnemonic (mnemonic instr) both.0 in
+    let first = is_mnemonic (mnemonic instr) in
     let rest : List ℕ = with_operands [] (operands_of instr) in
     let text : canonical instr ≡ spelling (mnemonic instr) ++ rest = with_operands-front (spelling (mnemonic instr)) (operands_of instr) in
-    let back = reads_again (syntax (mnemonic instr)) (operands_of instr) instr (1 + length (spelling (mnemonic instr))) (follows instr) both.1 in
+    let back = reads_again (syntax (mnemonic instr)) (operands_of instr) instr (1 + length (spelling (mnemonic instr))) (follows instr) h in
     let words : words_of_line (canonical instr) ≡ word (spelling (mnemonic instr)) 1 (words_from false (1 + length (spelling (mnemonic instr))) rest)
     = ap words_of_line text ∙ word_again 1 (spelling (mnemonic instr)) rest first.one_word (free_operands (operands_of instr)) in
     let read : whole (mnemonic instr) (words_from false (1 + length (spelling (mnemonic instr))) rest) ≡ Ok instr = rw back.1 refl in

@@ -66,17 +66,7 @@ spelling mnemonic = (row mnemonic).0
 abbrev pub syntax : Mnemonic → Syntax
 syntax mnemonic = (row mnemonic).1
 
--- whether lines are read with it: those that stop other threads and those of futexes have their words and operands, and aren't read
-abbrev pub is_offered : Mnemonic → Bool
-is_offered Mnemonic.Abort = false
-is_offered Mnemonic.Join = false
-is_offered Mnemonic.Suspend = false
-is_offered Mnemonic.Continue = false
-is_offered Mnemonic.FutexWait = false
-is_offered Mnemonic.FutexWake = false
-is_offered _ = true
-
--- all that lines are read with, the shortest words first
+-- all, the shortest words first
 abbrev pub mnemonics : List Mnemonic
 mnemonics =
     Mnemonic.End ∷ Mnemonic.Set ∷ Mnemonic.Add
@@ -86,10 +76,10 @@ mnemonics =
     ∷ Mnemonic.Panic
     ∷ Mnemonic.SemInit ∷ Mnemonic.SemTake ∷ Mnemonic.SemGive ∷ Mnemonic.MsgqPut ∷ Mnemonic.MsgqGet
     ∷ Mnemonic.SemReset ∷ Mnemonic.MsgqPeek ∷ Mnemonic.StackPop ∷ Mnemonic.PipeInit ∷ Mnemonic.PipeRead
-    ∷ Mnemonic.MutexInit ∷ Mnemonic.MutexLock ∷ Mnemonic.MsgqPurge ∷ Mnemonic.StackPush ∷ Mnemonic.PipeWrite ∷ Mnemonic.PipeReset ∷ Mnemonic.PipeClose ∷ Mnemonic.TimerStop
-    ∷ Mnemonic.TimerStart
-    ∷ Mnemonic.ObjectAlloc ∷ Mnemonic.MutexUnlock
-    ∷ Mnemonic.Create ∷ Mnemonic.SemCount
-    ∷ Mnemonic.Release
+    ∷ Mnemonic.MutexInit ∷ Mnemonic.MutexLock ∷ Mnemonic.MsgqPurge ∷ Mnemonic.StackPush ∷ Mnemonic.PipeWrite ∷ Mnemonic.PipeReset ∷ Mnemonic.PipeClose ∷ Mnemonic.TimerStop ∷ Mnemonic.FutexWait ∷ Mnemonic.FutexWake
+    ∷ Mnemonic.TimerStart ∷ Mnemonic.Join
+    ∷ Mnemonic.ObjectAlloc ∷ Mnemonic.MutexUnlock ∷ Mnemonic.Abort
+    ∷ Mnemonic.Create ∷ Mnemonic.SemCount ∷ Mnemonic.Continue
+    ∷ Mnemonic.Release ∷ Mnemonic.Suspend
     ∷ Mnemonic.DomainInit ∷ Mnemonic.NameSet ∷ Mnemonic.MsgqInit
     ∷ Mnemonic.StackInit ∷ Mnemonic.TimerStatus ∷ Mnemonic.MsgqUsed ∷ Mnemonic.TimerSync ∷ Mnemonic.Grant ∷ Mnemonic.Revoke ∷ Mnemonic.DomainMove ∷ Mnemonic.UserMode ∷ Mnemonic.AllGrant ∷ Mnemonic.DomainAdd ∷ Mnemonic.DomainRemove ∷ []

@@ -7,7 +7,6 @@ use Rattle.um_base.specs.declared.names.PartRef.{PartRef}
 use Rattle.um_base.specs.declared.names.Ref.{Ref}
 use Rattle.um_base.specs.declared.names.Term.{Term}
 use Rattle.um_script.specs.Canonical.{Operand, mnemonic, operands_of}
-use Rattle.um_script.specs.Instructions.{is_offered}
 use Rattle.um_script.specs.Operands.{Form, Times, Register, Size, AnyTerm, Named, Part, Parts, ObjectKind, Wait, HowMany, Priority, OptionSet, Value}
 use Rattle.um_vocabulary.specs.Words.{is_place_name}
 
@@ -51,4 +50,4 @@ abbrev pub all_fit : List Operand → Bool
 all_fit operands = list_all (λ o. fits o.0 o.1) operands
 
 abbrev pub is_line : Instr → Bool
-is_line line = is_offered (mnemonic line) && all_fit (operands_of line)
+is_line line = all_fit (operands_of line)

@@ -1,7 +1,7 @@
 //! The words that lines begin with, each by the name of its instruction. The calls have Zephyr's names.
 
 ghost use Rattle.std.specs.Prelude.{◌≡◌, ◌==◌, IfSome, IsTrue, length, find, filter, bytes_eq};
-ghost use Rattle.um_script.specs.Instructions.{spelling, mnemonics, is_offered};
+ghost use Rattle.um_script.specs.Instructions.{spelling, mnemonics};
 
 /// What a line does.
 #[derive(Clone, Copy)]
@@ -61,8 +61,8 @@ pub enum Mnemonic {
     FutexWake,
 }
 
-/// All that lines are read with, the shortest words first.
-const ALL: [Mnemonic; 47] = [
+/// All, the shortest words first.
+const ALL: [Mnemonic; 53] = [
     Mnemonic::End,
     Mnemonic::Set,
     Mnemonic::Add,
@@ -90,12 +90,18 @@ const ALL: [Mnemonic; 47] = [
     Mnemonic::PipeReset,
     Mnemonic::PipeClose,
     Mnemonic::TimerStop,
+    Mnemonic::FutexWait,
+    Mnemonic::FutexWake,
     Mnemonic::TimerStart,
+    Mnemonic::Join,
     Mnemonic::ObjectAlloc,
     Mnemonic::MutexUnlock,
+    Mnemonic::Abort,
     Mnemonic::Create,
     Mnemonic::SemCount,
+    Mnemonic::Continue,
     Mnemonic::Release,
+    Mnemonic::Suspend,
     Mnemonic::DomainInit,
     Mnemonic::NameSet,
     Mnemonic::MsgqInit,
@@ -125,12 +131,12 @@ fn of_length(size: usize) -> &'static [Mnemonic]
         7 => &all[8..9],
         10 => &all[9..14],
         11 => &all[14..19],
-        12 => &all[19..27],
-        13 => &all[27..28],
-        14 => &all[28..30],
-        15 => &all[30..32],
-        16 => &all[32..33],
-        17 => &all[33..36],
+        12 => &all[19..29],
+        13 => &all[29..31],
+        14 => &all[31..34],
+        15 => &all[34..37],
+        16 => &all[37..39],
+        17 => &all[39..42],
         _ => all,
     }
 }
@@ -208,8 +214,7 @@ impl Mnemonic {
 
     /// The one whose word this is. It is looked for among those of the same length.
     pub fn of_word(word: &[u8]) -> Option<Mnemonic>
-        ensures value { result ≡ find (λ m. bytes_eq word.now (spelling m)) mnemonics }
-        ensures offered { IfSome result (λ m. IsTrue (is_offered m)) }
+        ensures { result ≡ find (λ m. bytes_eq word.now (spelling m)) mnemonics }
     {
         among(of_length(word.len()), word)
     }

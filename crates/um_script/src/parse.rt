@@ -4,7 +4,6 @@ ghost use Rattle.std.specs.Prelude.{◌≡◌, ◌-◌, ◌<◌, ◌^◌, length
 ghost use Rattle.um_script.specs.{
   Cursor.{words_left},
   Faults.{Gives},
-  Instructions.{is_offered},
   Lines.{instruction, alone, whole, line_of},
   Subjects.{is_call, is_service, is_data_passing},
   Writable.{is_line},
@@ -25,7 +24,6 @@ macro_rules! read {
 impl Words<'_> {
     /// The operands of an instruction.
     fn instruction(&mut self, mnemonic: Mnemonic) -> Result<Instr, LineFault>
-        requires { IsTrue (is_offered mnemonic) }
         ensures { Gives result (instruction mnemonic (words_left self.old)) (words_left self.new) }
     {
         match mnemonic {
@@ -42,8 +40,7 @@ impl Words<'_> {
 
     /// The operands of a call.
     fn call(&mut self, mnemonic: Mnemonic) -> Result<Instr, LineFault>
-        requires call { IsTrue (is_call mnemonic) }
-        requires offered { IsTrue (is_offered mnemonic) }
+        requires { IsTrue (is_call mnemonic) }
         ensures { Gives result (instruction mnemonic (words_left self.old)) (words_left self.new) }
     {
         match mnemonic {
@@ -145,7 +142,6 @@ impl Words<'_> {
 
     /// The operands of an instruction, and no more words.
     fn whole(&mut self, mnemonic: Mnemonic) -> Result<Instr, LineFault>
-        requires { IsTrue (is_offered mnemonic) }
         ensures { result ≡ whole mnemonic (words_left self.old) }
     {
         let read = self.instruction(mnemonic);
