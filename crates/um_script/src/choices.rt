@@ -65,6 +65,17 @@ pub fn timeout(word: &[u8]) -> Result<Timeout, LineKind>
     }
 }
 
+/// Whether all are woken, or one.
+pub fn how_many(word: &[u8]) -> Result<bool, LineKind>
+    ensures { result ≡ operands.how_many word.now }
+{
+    match word {
+        b"one" => Ok(false),
+        b"all" => Ok(true),
+        _ => Err(LineKind::Operand),
+    }
+}
+
 /// How many bytes are loaded or stored.
 pub fn size(word: &[u8]) -> Result<u8, LineKind>
     ensures { result ≡ operands.size word.now }

@@ -5,7 +5,7 @@ ghost use Rattle.um_script.specs.{
   Cursor.{words_left},
   Faults.{Gives},
   Lines.{instruction, alone, whole, line_of},
-  Subjects.{is_call, is_service, is_data_passing},
+  Subjects.{is_call, is_later_call, is_service, is_data_passing},
   Writable.{is_line},
 };
 
@@ -61,6 +61,23 @@ impl Words<'_> {
             }),
             Mnemonic::UserMode => read!(self => UserMode { script: named }),
             Mnemonic::NameSet => read!(self => NameSet { thread: term, addr: term }),
+            call => self.stop_call(call),
+        }
+    }
+
+    /// The operands of a call that stops another thread or waits for its end, of a call on a futex, or of a call of a service.
+    fn stop_call(&mut self, mnemonic: Mnemonic) -> Result<Instr, LineFault>
+        requires { IsTrue (is_later_call mnemonic) }
+        ensures { Gives result (instruction mnemonic (words_left self.old)) (words_left self.new) }
+    {
+        match mnemonic {
+            Mnemonic::Abort => read!(self => Abort { thread: term }),
+            Mnemonic::Join => read!(self => Join { thread: term, timeout: timeout }),
+            Mnemonic::Suspend => read!(self => Suspend { thread: term }),
+            Mnemonic::Continue => read!(self => Continue { thread: term }),
+            Mnemonic::FutexWait =>
+                read!(self => FutexWait { addr: term, value: term, timeout: timeout }),
+            Mnemonic::FutexWake => read!(self => FutexWake { addr: term, all: how_many }),
             call => self.service_call(call),
         }
     }
