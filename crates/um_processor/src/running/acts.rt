@@ -17,9 +17,10 @@ use um_machine::Pending;
 use um_service::Outcome;
 use um_tables::{FutexWait, FutexWake, Here, Seeker, Sites};
 
-/// The sites of the cells of memory and of the joins.
+/// The site of the cell of memory.
 const MEMORY: u16 = 304;
 
+/// That of the joins.
 const JOINS: u16 = 308;
 
 impl Running {

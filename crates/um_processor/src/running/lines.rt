@@ -28,8 +28,8 @@ fn line_number(image: &Image, place: Place) -> Option<u16>
 }
 
 impl Running {
-    /// Has the thread begin its line, unless it is stopped: a doomed thread stops running, one that was aborted is killed, so that the claims of its
-    /// call are to end, and one that is suspended goes to sleep.
+    /// Has the thread begin its line, unless it is stopped: a doomed thread stops running, one that was aborted is killed, so that the claims
+    /// of its call are to end, and one that is suspended goes to sleep.
     pub fn begin<S: Sites>(
         &mut self,
         here: &Here,

@@ -11,11 +11,13 @@ use um_machine::Pending;
 use um_tables::Context;
 use um_words::Mark;
 
-/// The sites of the cells of memory and of the joins, and of the object of row 0.
+/// The site of the cell of memory.
 const MEMORY: u16 = 304;
 
+/// That of the joins.
 const JOINS: u16 = 308;
 
+/// That of the object of row 0.
 const OBJECTS: u16 = 168;
 
 /// Whether a call waits that can't go on.
