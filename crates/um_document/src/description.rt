@@ -109,6 +109,14 @@ pub struct ScriptEntry {
     pub lines: Sequence<Text>,
 }
 
+/// A word in memory on which threads wait.
+#[derive(Drop)]
+pub struct FutexEntry {
+    pub name: Name,
+    pub partition: Text,
+    pub offset: i64,
+}
+
 /// What a document says. The read-only data are its bytes, none where the key is absent.
 #[derive(Drop)]
 pub struct Description {
@@ -122,4 +130,5 @@ pub struct Description {
     pub objects: Sequence<ObjectEntry>,
     pub boots: Sequence<BootEntry>,
     pub scripts: Sequence<ScriptEntry>,
+    pub futexes: Sequence<FutexEntry>,
 }

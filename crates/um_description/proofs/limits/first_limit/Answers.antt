@@ -1,5 +1,5 @@
 use Rattle.std.proofs.Common.{rules}
-use Rattle.um_description.specs.Limits.{pool_limits, partition_limits, domain_limits, boot_limits, script_limits}
+use Rattle.um_description.specs.Limits.{pool_limits, partition_limits, domain_limits, boot_limits, script_limits, futex_limits}
 use Rattle.um_description.proofs.Firsts.{or_two}
 use Rattle.um_description.proofs.limits.first_limit.Goals as goal
 
@@ -10,4 +10,5 @@ returns c =
     let domains = c.first_found-domains.ensures (domain_limits c.most_parts-most.result) (λ i entry found is. search rules) in
     let boots = c.first_found-3.ensures boot_limits (λ i entry found is. search rules) in
     let scripts = c.first_found-4.ensures script_limits (λ i entry found is. search rules) in
+    let futexes = c.first_found-futexes.ensures (futex_limits c.as_slice-partitions.result.now) (λ i entry found is. search rules) in
     or_two _ _ (or_two _ _ (or_two _ _ (or_two _ _ (or_two _ _ (or_two _ _ (c.top_limit.ensures) (rw (← c.as_slice-2.ensures) pools) c.or.ensures) (rw (← c.as_slice-3.ensures) partitions) c.or-2.ensures) (rw (← c.as_slice.ensures, ← c.most_parts-most.ensures.value) domains) c.or-3.ensures) (rw (← c.as_slice-4.ensures) c.object_limits.ensures) c.or-4.ensures) (rw (← c.as_slice-5.ensures) boots) c.or-5.ensures) (rw (← c.as_slice-6.ensures) scripts) c.or-6.ensures
