@@ -6,7 +6,7 @@
 -- that events are steps of the machine where the relation holds (Says, Offered, HeldRows, Shown and the files of steps). What the machine's state is
 -- known to be in a run is in the files named Known, CallSteps, CallsProper, Reachable and, of message queues, QueueSteps, QueuesKept and
 -- QueuesAfter. CellSteps and Endings are what a step makes of the cell of an object, and of a thread that has ended. IdleComplete and
--- the files named Stuck show that where no processor can step the machine can't either, CompleteRuns what that says of fine runs, ChosenStuck that it is enough if no chosen step is left, and Waiting what one waits for that can't. What they ask for
+-- the files named Stuck show that where no processor can step the machine can't either, CompleteRuns what that says of fine runs, ChosenStuck that it is enough if no chosen step is left, QuietIdle that one look at the scheduler's word can show it, and Waiting what one waits for that can't. What they ask for
 -- is so along each fine run where words can count: CallBounds, Bounds and the files of those names have what bounds calls, lists and the scheduler, and
 -- ClearsKnown and the files named Room what follows from that.
 -- Of time, the files named Arm, Clock, Due, Expiry, Mark, Owed, Time and Unarmed; of who waits, Wait; of notes, of cuts and of looks those named Note, Cut and Look;
@@ -136,6 +136,7 @@ pub mod StuckComplete
 pub mod Waiting
 pub mod CompleteRuns
 pub mod ChosenStuck
+pub mod QuietIdle
 pub mod MemoryPart
 pub mod WordsPart
 pub mod Taking
