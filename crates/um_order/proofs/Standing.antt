@@ -106,6 +106,10 @@ pub record PutsAway (p : Processor) (s : Scheduler) (ms : List Marked) (at : Poi
   pub cut : at.cut ≡ None
   pub armings : Plain ms at.armings
 
+-- where one that was cut is to get ready, nobody is to be woken; and neither where one is to be added
+abbrev pub ComeAlone : Todos → Type 0
+ComeAlone todo = (is_empty (cutters todo) ≡ false → wakers todo ≡ []) × (is_empty (adders todo) ≡ false → (wakers todo ≡ []) × (cutters todo ≡ []))
+
 -- The processor's thread has made the last event, and this list is left to it, in front of which these threads come. In the point's ready list stand
 -- already those, those whom the list has still to wake or to add, and the thread itself if it goes back.
 pub record Turns (p : Processor) (todo : Todos) (front : List ℕ) (s : Scheduler) (ms : List Marked) (at : Point) : Type 0 where
@@ -117,8 +121,10 @@ pub record Turns (p : Processor) (todo : Todos) (front : List ℕ) (s : Schedule
   -- a thread at rest has no event on the list, and `done` is on the list only if the thread has ended
   pub shows : is_empty p.context.pending ≡ true → list_any is_show todo ≡ false
   pub ends : says_done todo ≡ true → p.context.ended ≡ true
-  -- a thread that waits wasn't told anything yet
+  -- a thread that waits wasn't told anything yet, and wasn't cut
   pub told : waits p.context.pending ≡ true → (thread_at at.state p.context.thread).told ≡ None
+  pub whole : waits p.context.pending ≡ true → waits (thread_at at.state p.context.thread).pending ≡ true
+  pub alone : ComeAlone todo
   pub armings : Plain ms at.armings
 
 abbrev pub Begun : Processor → Scheduler → List Marked → Point → Type 0
