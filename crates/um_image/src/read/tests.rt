@@ -70,6 +70,74 @@ const REFUSED: [(&str, &str, &str); 19] = [
     ),
 ];
 
+/// A description with this section of futexes, in a partition of 32 bytes.
+macro_rules! with_futexes {
+    ($futexes:literal) => {
+        concat!(
+            "version = 1\nmpu = \"pmsav7\"\nregions = 4\noops = \"abort\"\n",
+            "partition = [{name = \"p\", size = 32, attr = \"P_RW_U_RW\"}, {name = \"q\", size = 3, attr = \"P_RW_U_RW\"}]\n",
+            $futexes
+        )
+    };
+}
+
+/// Descriptions with futexes, and what is told of each.
+const FUTEXES: [(&str, &str); 14] = [
+    (
+        with_futexes!("futex = [{name = \"f\", partition = \"p\", offset = 28}]"),
+        "image",
+    ),
+    (
+        with_futexes!("futex = [{name = \"f\", partition = \"p\", offset = 1}, {name = \"g\", partition = \"p\", offset = 2}]"),
+        "image",
+    ),
+    (with_futexes!("futex = {}"), "WrongType futex"),
+    (
+        with_futexes!("futex = [{name = \"f\", partition = \"p\"}]"),
+        "MissingKey futex[0].offset",
+    ),
+    (
+        with_futexes!("futex = [{name = \"f\", offset = 0}]"),
+        "MissingKey futex[0].partition",
+    ),
+    (
+        with_futexes!("futex = [{name = \"f\", partition = 0, offset = 0}]"),
+        "WrongType futex[0].partition",
+    ),
+    (
+        with_futexes!("futex = [{name = \"f\", partition = \"p\", offset = 0, size = 4}]"),
+        "UnknownKey futex[0].size",
+    ),
+    (
+        with_futexes!("futex = [{name = \"p\", partition = \"p\", offset = 0}]"),
+        "Duplicate futex[0].name",
+    ),
+    (
+        with_futexes!("futex = [{name = \"f\", partition = \"p\", offset = 4}, {name = \"g\", partition = \"p\", offset = 4}]"),
+        "Duplicate futex[1].offset",
+    ),
+    (
+        with_futexes!("futex = [{name = \"f\", partition = \"p\", offset = 4}, {name = \"f\", partition = \"p\", offset = 4}]"),
+        "Duplicate futex[1].name",
+    ),
+    (
+        with_futexes!("futex = [{name = \"f\", partition = \"f\", offset = 0}]"),
+        "UnknownName futex[0].partition",
+    ),
+    (
+        with_futexes!("futex = [{name = \"f\", partition = \"p\", offset = 29}]"),
+        "Limit offset 28 futex[0].offset",
+    ),
+    (
+        with_futexes!("futex = [{name = \"f\", partition = \"p\", offset = -1}]"),
+        "Limit offset 0 futex[0].offset",
+    ),
+    (
+        with_futexes!("futex = [{name = \"f\", partition = \"q\", offset = 5}]"),
+        "Limit offset 0 futex[0].offset",
+    ),
+];
+
 /// A thread that reads a variable of a partition.
 const PACKED: &str = "version = 2
 mpu = \"pmsav7\"
@@ -186,6 +254,28 @@ fn first_faults_are_told(rt: HostRuntime) -> Result<(), Fail> {
 }
 
 #[test]
+fn futexes_are_told(rt: HostRuntime) -> Result<(), Fail> {
+    for (text, told) in FUTEXES {
+        let found = answer(rt.alloc(), text)?;
+        assert_eq!(rt; found.as_str(), told, "{text}");
+    }
+    Ok(())
+}
+
+/// A futex of a packed partition lies before the end of the last variable.
+#[test]
+fn packed_futexes_are_told(rt: HostRuntime) -> Result<(), Fail> {
+    for (offset, told) in [(4, "image"), (5, "Limit offset 4 futex[0].offset")] {
+        let text = format!(in rt.alloc();
+            "{PACKED}[[futex]]\nname = \"f\"\npartition = \"p\"\noffset = {offset}\n"
+        )?;
+        let found = answer(rt.alloc(), text.as_str())?;
+        assert_eq!(rt; found.as_str(), told);
+    }
+    Ok(())
+}
+
+#[test]
 fn variables_are_told(rt: HostRuntime) -> Result<(), Fail> {
     for (part, other, told) in PACKED_ANSWERS {
         let changed = PACKED.replacen(rt.alloc(), part, other, 1)?;
@@ -262,7 +352,8 @@ fn greatest_weight_is_read(rt: HostRuntime) -> Result<(), Fail> {
     Ok(())
 }
 
-/// A call of a timer costs twice what another call does, and ticks of a timeout cost nothing.
+/// A call of a timer, one that stops a thread and one on a futex cost twice what another call does, and ticks of a timeout
+/// cost nothing.
 #[test]
 fn timed_lines_are_weighed(rt: HostRuntime) -> Result<(), Fail> {
     for (line, heavy) in [
@@ -270,6 +361,12 @@ fn timed_lines_are_weighed(rt: HostRuntime) -> Result<(), Fail> {
         ("k_timer_stop @a", 320),
         ("k_timer_status_get @a r0", 320),
         ("k_timer_status_sync @a r0", 320),
+        ("k_thread_abort @a", 320),
+        ("k_thread_join @a K_NO_WAIT", 320),
+        ("k_thread_suspend @a", 320),
+        ("k_thread_resume @a", 320),
+        ("k_futex_wait @p 0 K_TICKS(5)", 320),
+        ("k_futex_wake @p all", 320),
         ("k_sem_take @a K_TICKS(5)", 280),
     ] {
         let lines = format!(in rt.alloc(); "\"{line}\"")?;
