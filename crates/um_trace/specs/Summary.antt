@@ -30,11 +30,9 @@ abbrev pub is_fatal : Act → Bool
 is_fatal (Act.Fatal reason cause) = true
 is_fatal _ = false
 
--- work on an object that waits, or a call that waits for an end or on a futex
+-- work on an object that waits
 abbrev pub is_wait : Act → Bool
 is_wait (Act.Work addr Answer.Wait woken) = true
-is_wait (Act.Join who Answer.Wait) = true
-is_wait (Act.FutexWait addr value Answer.Wait) = true
 is_wait _ = false
 
 abbrev pub is_recycle : Act → Bool

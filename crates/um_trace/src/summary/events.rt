@@ -14,7 +14,7 @@ pub enum Counted {
     /// Checks that aren't ok.
     Refused,
     Fatals,
-    /// Work that waits, and calls that wait for an end or on a futex.
+    /// Work on an object that waits.
     Waits,
     Recycles,
 }
@@ -38,12 +38,6 @@ fn counts(counted: Counted, act: &Act) -> bool
         Counted::Waits => matches!(
             act,
             Act::Work {
-                answer: Answer::Wait,
-                ..
-            } | Act::Join {
-                answer: Answer::Wait,
-                ..
-            } | Act::FutexWait {
                 answer: Answer::Wait,
                 ..
             }
