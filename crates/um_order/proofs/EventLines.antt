@@ -64,7 +64,7 @@ occurs-cut u (Todo.tell_cut who ∷ todo) = λ i. if flip u who i then occurs-cu
 occurs-cut u (q ∷ todo) = occurs-cut u todo
 
 -- the own part of a thread that wasn't cut
-own-is : (g : Fine) (s : State) (c : Context) → IsOf g s c → cuts g c.thread ≡ 0 → as_thread c ≡ own_part (thread_at s c.thread)
+pub own-is : (g : Fine) (s : State) (c : Context) → IsOf g s c → cuts g c.thread ≡ 0 → as_thread c ≡ own_part (thread_at s c.thread)
 own-is g s c of uncut = ap (λ n. as_thread (as_cut n c)) (sym uncut) ∙ of.own
 
 -- the number of a woken thread is a thread index
