@@ -77,7 +77,7 @@ module _ (image : Image) where
   abbrev Cuts : List ℕ → Todos → Type 0
   Cuts cut todo = cutters todo ≡ cut
 
-  cuts-none : (c : Context) (q : Pending) (rest : Steps) → Cuts [] (fine_steps image c q rest)
+  pub cuts-none : (c : Context) (q : Pending) (rest : Steps) → Cuts [] (fine_steps image c q rest)
   cuts-none = forms-kept image (Cuts [])
       (record {
         note = λ site todo h. h;
@@ -140,7 +140,7 @@ module _ (image : Image) where
   calm-visit (Todo.drop x) todo visit few h = h
   calm-visit q todo visit few h = absurd (false≢true visit)
 
-  calm-fine : (c : Context) (q : Pending) (rest : Steps) → Calm (fine_steps image c q rest)
+  pub calm-fine : (c : Context) (q : Pending) (rest : Steps) → Calm (fine_steps image c q rest)
   calm-fine = forms-kept image Calm
       (record {
         note = λ site todo h. h;
