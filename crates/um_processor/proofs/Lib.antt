@@ -17,7 +17,7 @@ pub mod Shown
 pub mod Spared
 pub mod Standings
 pub mod Stopped
-pub mod Tended
+pub mod Idled
 pub mod Timed
 pub mod Visited
 pub mod Wholes

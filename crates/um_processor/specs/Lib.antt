@@ -7,3 +7,4 @@ pub mod Standing
 pub mod Subjects
 pub mod Events
 pub mod Turns
+pub mod Idles

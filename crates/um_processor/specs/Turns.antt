@@ -2,7 +2,6 @@
 use Rattle.std.specs.Prelude.{◌≡◌, ℕ, Bool, false, List}
 use Rattle.um_base.specs.declared.image.Image.{Image}
 use Rattle.um_fine.specs.Processor.{Processor}
-use Rattle.um_fine.specs.Steps.{Site}
 use Rattle.um_tables.specs.declared.here.Here.{Here}
 use Rattle.um_processor.specs.declared.phase.Turn.{Turn}
 use Rattle.um_processor.specs.declared.processor.Processor.{Processor as Kept}
@@ -10,7 +9,7 @@ use Rattle.um_processor.specs.declared.running.Running.{Running}
 use Rattle.um_tables.specs.declared.sites.Sites.{Ghosts as SitesOf}
 use Rattle.um_processor.specs.Events.{with_ends}
 use Rattle.um_processor.specs.Phases.{is_idle}
-use Rattle.um_processor.specs.Processors.{MayNext, OnMade, Turned, TurnedAt, UnlessMade, cleaned, processor_of}
+use Rattle.um_processor.specs.Processors.{MayNext, OnMade, Turned, UnlessMade, cleaned, processor_of}
 use Rattle.um_processor.specs.Standing.{whole}
 
 -- the sites let the processor of this number make whatever step it asks for next
@@ -27,15 +26,6 @@ TurnsAt sites turn cpu image s t p z =
     (λ site. sites.Kept s t × sites.Contended image s site t)
     (t ≡ s)
 
--- the same of a processor without a thread that tends to time, at the clock
-abbrev pub TendsAt : {S : Type 0} → SitesOf S → Turn → ℕ → Image → S → S → Processor → Processor → Type 0
-TendsAt sites turn cpu image s t p z =
-    TurnedAt Site.clock turn cpu image p z
-    (λ e. sites.Took image s e t)
-    (λ e. (e.site ≡ Site.clock) × sites.Kept s t × sites.Shut image s e t)
-    (λ site. sites.Kept s t × sites.Contended image s site t)
-    (t ≡ s)
-
 -- what a step here asks for: the sites are those of the image, and let this processor make its next step
 abbrev pub CanTurn : {S : Type 0} → SitesOf S → Here → S → Processor → Type 0
 CanTurn sites here s p = sites.IsOf here.image.now s × MayTurn sites here.cpu here.image.now s p
@@ -44,11 +34,6 @@ CanTurn sites here s p = sites.IsOf here.image.now s × MayTurn sites here.cpu h
 abbrev pub HasTurned : {S : Type 0} → SitesOf S → Turn → Here → S → S → Processor → Processor → Processor → Type 0
 HasTurned sites turn here s t p y z =
     sites.IsOf here.image.now t × UnlessMade turn (z ≡ y) × TurnsAt sites turn here.cpu here.image.now s t p z
-
--- the same of one that tends to time
-abbrev pub HasTended : {S : Type 0} → SitesOf S → Turn → Here → S → S → Processor → Processor → Processor → Type 0
-HasTended sites turn here s t p y z =
-    sites.IsOf here.image.now t × UnlessMade turn (z ≡ y) × TendsAt sites turn here.cpu here.image.now s t p z
 
 -- the same of a processor that its thread's steps keep busy
 abbrev pub HasRun : {S : Type 0} → SitesOf S → Turn → Here → S → S → Processor → Running → Running → Type 0

@@ -2,7 +2,8 @@
 
 ghost use Rattle.std.specs.Prelude.{◌≡◌, [], false, true, IsTrue};
 ghost use Rattle.um_steps.specs.Given.{IsGiven};
-ghost use Rattle.um_processor.specs.{Cleanings.{clean_todo}, Phases.{is_idle, is_plain_phase}, Processors.{UnlessMade, in_phase}, Standing.{CleansNext, IsClear, whole}, Turns.{CanTurn, HasStepped, MayTurn, TendsAt, TurnsAt}};
+ghost use Rattle.um_fine.specs.{Answers.{is_due_act, is_tick}, Steps.{Site}};
+ghost use Rattle.um_processor.specs.{Cleanings.{clean_todo}, Idles.{HasIdled, IdlesAt, is_turn}, Phases.{is_idle, is_plain_phase}, Processors.{UnlessMade, in_phase}, Standing.{CleansNext, IsClear, whole}, Turns.{CanTurn, HasStepped, MayTurn, TurnsAt}};
 ghost use Rattle.um_processor.specs.declared.phase.Phase.TheVariants as Phase;
 
 use crate::cleaning::CleanStep;
@@ -26,10 +27,10 @@ impl Processor {
 
     /// Takes the first ready thread.
     fn take<S: Sites>(&mut self, here: &Here, sites: &mut S) -> Turn
-        requires idle { is_idle self.old.running.phase ≡ true }
+        requires idle { (whole self.old).todo ≡ [] }
         requires goes { CanTurn S.Sites here.now sites.old (whole self.old) }
-        ensures turn { HasStepped S.Sites result here.now sites.old sites.new
-            (whole self.old) self.old self.new }
+        ensures turn { HasIdled S.Sites Site.scheduler is_turn result here.now sites.old sites.new
+            (whole self.old) (whole self.old) (whole self.new) }
     {
         took!(self.running.take(here, sites));
         self.clears();
@@ -175,6 +176,8 @@ impl Processor {
         ensures same { UnlessMade result (whole self.new ≡ whole self.old) }
         ensures turn { TurnsAt S.Sites result cpu image.now sites.old sites.new
             (whole self.old) (whole self.new) }
+        ensures takes { (whole self.old).todo ≡ [] → IdlesAt S.Sites Site.scheduler is_turn result cpu image.now sites.old sites.new
+            (whole self.old) (whole self.new) }
     {
         let here = &Here { image, cpu };
         if self.running.is_idle() {
@@ -193,7 +196,7 @@ impl Processor {
         requires goes { MayTurn S.Sites cpu image.now sites.old (whole self.old) }
         ensures image { S.IsOf image.now sites.new }
         ensures same { UnlessMade result (whole self.new ≡ whole self.old) }
-        ensures turn { TendsAt S.Sites result cpu image.now sites.old sites.new
+        ensures turn { IdlesAt S.Sites Site.clock is_due_act result cpu image.now sites.old sites.new
             (whole self.old) (whole self.new) }
     {
         let here = &Here { image, cpu };
@@ -209,7 +212,7 @@ impl Processor {
         requires goes { MayTurn S.Sites cpu image.now sites.old (whole self.old) }
         ensures image { S.IsOf image.now sites.new }
         ensures same { UnlessMade result (whole self.new ≡ whole self.old) }
-        ensures turn { TendsAt S.Sites result cpu image.now sites.old sites.new
+        ensures turn { IdlesAt S.Sites Site.clock is_tick result cpu image.now sites.old sites.new
             (whole self.old) (whole self.new) }
     {
         let here = &Here { image, cpu };

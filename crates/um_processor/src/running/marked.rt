@@ -5,9 +5,9 @@ ghost use Rattle.um_base.specs.declared.limits.TheConstants.{FUTEX_CELL};
 ghost use Rattle.um_base.specs.declared.names.Reply.TheVariants as Reply;
 ghost use Rattle.um_machine.specs.Time.{late_reply};
 ghost use Rattle.um_words.specs.declared.fine.Mark.TheVariants as Mark;
-ghost use Rattle.um_fine.specs.Processor.{actor_or, first_boot};
+ghost use Rattle.um_fine.specs.{Answers.{is_due_act, is_tick}, Processor.{actor_or, first_boot}, Steps.{Site}};
 ghost use Rattle.um_processor.specs.declared.phase.Phase.TheVariants as Phase;
-ghost use Rattle.um_processor.specs.{Events.{with_woken}, Phases.{is_idle}, Processors.{OnMade, UnlessMade, in_phase, processor_of}, Turns.{CanTurn, HasRun, HasTended, TurnsAt}};
+ghost use Rattle.um_processor.specs.{Events.{with_woken}, Phases.{is_idle}, Processors.{OnMade, UnlessMade, in_phase, processor_of}, Idles.{HasIdled}, Turns.{CanTurn, HasRun, TurnsAt}};
 
 use crate::phase::{Phase, Turn};
 use crate::running::Running;
@@ -83,7 +83,7 @@ impl Running {
     /// Takes the first mark that is due.
     pub fn give<S: Sites>(&mut self, here: &Here, sites: &mut S) -> Turn
         requires goes { CanTurn S.Sites here.now sites.old (in_phase Phase.Idle self.old) }
-        ensures turn { HasTended S.Sites result here.now sites.old sites.new
+        ensures turn { HasIdled S.Sites Site.clock is_due_act result here.now sites.old sites.new
             (in_phase Phase.Idle self.old) (processor_of self.old) (processor_of self.new) }
     {
         let (deadline, mark) = made!(sites.give(here));
@@ -97,7 +97,7 @@ impl Running {
     pub fn tick<S: Sites>(&mut self, here: &Here, sites: &mut S) -> Turn
         requires idle { is_idle self.old.phase ≡ true }
         requires goes { CanTurn S.Sites here.now sites.old (in_phase Phase.Idle self.old) }
-        ensures turn { HasTended S.Sites result here.now sites.old sites.new
+        ensures turn { HasIdled S.Sites Site.clock is_tick result here.now sites.old sites.new
             (in_phase Phase.Idle self.old) (processor_of self.old) (processor_of self.new) }
     {
         let thread = self.actor(here.image);

@@ -1,7 +1,8 @@
 //! The begin and the end of a turn, and how a new thread gets ready.
 
 ghost use Rattle.std.specs.Prelude.{◌≡◌};
-ghost use Rattle.um_processor.specs.{Events.{parks}, Processors.{in_phase, processor_of, turning}, Turns.{CanTurn, HasRun}};
+ghost use Rattle.um_processor.specs.{Events.{parks}, Idles.{HasIdled, is_turn}, Processors.{in_phase, processor_of, turning}, Turns.{CanTurn, HasRun}};
+ghost use Rattle.um_fine.specs.Steps.{Site};
 
 use crate::phase::{Phase, Turn};
 use crate::running::Running;
@@ -22,10 +23,11 @@ impl Running {
     }
 
     /// Takes the first ready thread. A thread that was woken goes on in the same step.
+    #[tactic(auto, using(crate::proofs::Idled::takes_turns))]
     pub fn take<S: Sites>(&mut self, here: &Here, sites: &mut S) -> Turn
         requires goes { CanTurn S.Sites here.now sites.old (in_phase Phase.Idle self.old) }
-        ensures turn { HasRun S.Sites result here.now sites.old sites.new
-            (in_phase Phase.Idle self.old) self.old self.new }
+        ensures turn { HasIdled S.Sites Site.scheduler is_turn result here.now sites.old sites.new
+            (in_phase Phase.Idle self.old) (processor_of self.old) (processor_of self.new) }
     {
         let woken = made!(sites.take(here, &mut self.context, &mut self.told));
         if woken {

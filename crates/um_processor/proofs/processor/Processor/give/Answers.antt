@@ -1,11 +1,13 @@
 use Rattle.std.proofs.Common.{ap, drop, ◌∙◌}
+use Rattle.um_fine.specs.Answers.{is_due_act}
 use Rattle.um_fine.specs.Processor.{Processor}
+use Rattle.um_fine.specs.Steps.{Site}
 use Rattle.um_tables.specs.declared.here.Here.{Here}
 use Rattle.um_processor.specs.declared.phase.Turn.TheVariants as Turn
 use Rattle.um_processor.specs.Processors.{processor_of}
 use Rattle.um_processor.specs.Standing.{standing}
 use Rattle.um_processor.proofs.Lifted.{bare}
-use Rattle.um_processor.proofs.Tended.{tended, tends-may}
+use Rattle.um_processor.proofs.Idled.{idled, tends-may}
 use Rattle.um_processor.proofs.processor.Processor.give.Goals as goal
 
 pub give-requires : goal.give-requires
@@ -17,7 +19,7 @@ returns g c =
     let new = bare _ _ _ _ clear.cleans clear.ends clear.woken ∙ ap processor_of c.clears.ensures.running in
     let h = c.in-Made.ensures.turn in
     let here : Here = record { image = c.args.image; cpu = c.args.cpu } in
-    record { image = h.0; same = tt; turn = tended g.S.Sites Turn.Made here c.args.sites.now c.give.new.sites c.args.self.now c.give.new.self _ c.requires.idle h new }
+    record { image = h.0; same = tt; turn = idled g.S.Sites Site.clock is_due_act Turn.Made here c.args.sites.now c.give.new.sites c.args.self.now c.give.new.self _ c.requires.idle h new }
 
 pub returns-in-Busy : goal.returns-in-Busy
 returns-in-Busy g c =
@@ -26,7 +28,7 @@ returns-in-Busy g c =
     let left : Processor → Processor = standing k.cleans k.ends.items (drop k.told k.outcome.woken) in
     let h = c.in-Busy.ensures.turn in
     let same = ap left h.1 in
-    record { image = h.0; same = same; turn = tended g.S.Sites Turn.Busy here c.args.sites.now c.give.new.sites k c.give.new.self (left (processor_of c.give.new.self)) c.requires.idle h tt }
+    record { image = h.0; same = same; turn = idled g.S.Sites Site.clock is_due_act Turn.Busy here c.args.sites.now c.give.new.sites k c.give.new.self (left (processor_of c.give.new.self)) c.requires.idle h tt }
 
 pub returns-in-Changed : goal.returns-in-Changed
 returns-in-Changed g c =
@@ -35,7 +37,7 @@ returns-in-Changed g c =
     let left : Processor → Processor = standing k.cleans k.ends.items (drop k.told k.outcome.woken) in
     let h = c.in-Changed.ensures.turn in
     let same = ap left h.1 in
-    record { image = h.0; same = same; turn = tended g.S.Sites Turn.Changed here c.args.sites.now c.give.new.sites k c.give.new.self (left (processor_of c.give.new.self)) c.requires.idle h tt }
+    record { image = h.0; same = same; turn = idled g.S.Sites Site.clock is_due_act Turn.Changed here c.args.sites.now c.give.new.sites k c.give.new.self (left (processor_of c.give.new.self)) c.requires.idle h tt }
 
 pub returns-in-Stuck : goal.returns-in-Stuck
 returns-in-Stuck g c =
@@ -44,4 +46,4 @@ returns-in-Stuck g c =
     let left : Processor → Processor = standing k.cleans k.ends.items (drop k.told k.outcome.woken) in
     let h = c.in-Stuck.ensures.turn in
     let same = ap left h.1 in
-    record { image = h.0; same = same; turn = tended g.S.Sites Turn.Stuck here c.args.sites.now c.give.new.sites k c.give.new.self (left (processor_of c.give.new.self)) c.requires.idle h tt }
+    record { image = h.0; same = same; turn = idled g.S.Sites Site.clock is_due_act Turn.Stuck here c.args.sites.now c.give.new.sites k c.give.new.self (left (processor_of c.give.new.self)) c.requires.idle h tt }

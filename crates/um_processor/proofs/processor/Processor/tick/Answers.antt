@@ -1,11 +1,13 @@
 use Rattle.std.proofs.Common.{ap, drop, ◌∙◌}
+use Rattle.um_fine.specs.Answers.{is_tick}
 use Rattle.um_fine.specs.Processor.{Processor}
+use Rattle.um_fine.specs.Steps.{Site}
 use Rattle.um_tables.specs.declared.here.Here.{Here}
 use Rattle.um_processor.specs.declared.phase.Turn.TheVariants as Turn
 use Rattle.um_processor.specs.Processors.{processor_of}
 use Rattle.um_processor.specs.Standing.{standing}
 use Rattle.um_processor.proofs.Lifted.{bare}
-use Rattle.um_processor.proofs.Tended.{idle-known, tended, tends-may}
+use Rattle.um_processor.proofs.Idled.{idle-known, idled, tends-may}
 use Rattle.um_processor.proofs.processor.Processor.tick.Goals as goal
 
 pub tick-requires-clause-idle : goal.tick-requires-clause-idle
@@ -20,7 +22,7 @@ returns g c =
     let new = bare _ _ _ _ clear.cleans clear.ends clear.woken ∙ ap processor_of c.clears.ensures.running in
     let h = c.in-Made.ensures.turn in
     let here : Here = record { image = c.args.image; cpu = c.args.cpu } in
-    record { image = h.0; same = tt; turn = tended g.S.Sites Turn.Made here c.args.sites.now c.tick.new.sites c.args.self.now c.tick.new.self _ c.requires.idle h new }
+    record { image = h.0; same = tt; turn = idled g.S.Sites Site.clock is_tick Turn.Made here c.args.sites.now c.tick.new.sites c.args.self.now c.tick.new.self _ c.requires.idle h new }
 
 pub returns-in-Busy : goal.returns-in-Busy
 returns-in-Busy g c =
@@ -29,7 +31,7 @@ returns-in-Busy g c =
     let left : Processor → Processor = standing k.cleans k.ends.items (drop k.told k.outcome.woken) in
     let h = c.in-Busy.ensures.turn in
     let same = ap left h.1 in
-    record { image = h.0; same = same; turn = tended g.S.Sites Turn.Busy here c.args.sites.now c.tick.new.sites k c.tick.new.self (left (processor_of c.tick.new.self)) c.requires.idle h tt }
+    record { image = h.0; same = same; turn = idled g.S.Sites Site.clock is_tick Turn.Busy here c.args.sites.now c.tick.new.sites k c.tick.new.self (left (processor_of c.tick.new.self)) c.requires.idle h tt }
 
 pub returns-in-Changed : goal.returns-in-Changed
 returns-in-Changed g c =
@@ -38,7 +40,7 @@ returns-in-Changed g c =
     let left : Processor → Processor = standing k.cleans k.ends.items (drop k.told k.outcome.woken) in
     let h = c.in-Changed.ensures.turn in
     let same = ap left h.1 in
-    record { image = h.0; same = same; turn = tended g.S.Sites Turn.Changed here c.args.sites.now c.tick.new.sites k c.tick.new.self (left (processor_of c.tick.new.self)) c.requires.idle h tt }
+    record { image = h.0; same = same; turn = idled g.S.Sites Site.clock is_tick Turn.Changed here c.args.sites.now c.tick.new.sites k c.tick.new.self (left (processor_of c.tick.new.self)) c.requires.idle h tt }
 
 pub returns-in-Stuck : goal.returns-in-Stuck
 returns-in-Stuck g c =
@@ -47,4 +49,4 @@ returns-in-Stuck g c =
     let left : Processor → Processor = standing k.cleans k.ends.items (drop k.told k.outcome.woken) in
     let h = c.in-Stuck.ensures.turn in
     let same = ap left h.1 in
-    record { image = h.0; same = same; turn = tended g.S.Sites Turn.Stuck here c.args.sites.now c.tick.new.sites k c.tick.new.self (left (processor_of c.tick.new.self)) c.requires.idle h tt }
+    record { image = h.0; same = same; turn = idled g.S.Sites Site.clock is_tick Turn.Stuck here c.args.sites.now c.tick.new.sites k c.tick.new.self (left (processor_of c.tick.new.self)) c.requires.idle h tt }
