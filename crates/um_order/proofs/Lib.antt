@@ -20,6 +20,7 @@ mod Follow
 mod ShowSteps
 mod VisitOrder
 mod CleanOrder
+mod TakeSteps
 mod TakeOrder
 mod Reserves
 mod FullKept

@@ -101,6 +101,8 @@ pub record PutsAway (p : Processor) (s : Scheduler) (ms : List Marked) (at : Poi
   pub skipped : List ℕ
   pub still : AllStill at.state skipped
   pub own : is_still at.state p.context.thread ≡ true
+  -- one that goes to sleep is suspended
+  pub sleeps : (p.todo ≡ Todo.done ∷ []) ⊎ (((thread_at at.state p.context.thread).suspended && not (thread_at at.state p.context.thread).aborted) ≡ true)
   pub ready : at.ready ≡ skipped ++ s.ready
   pub inside : at.inside ≡ None
   pub cut : at.cut ≡ None
