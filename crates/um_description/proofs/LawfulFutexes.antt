@@ -37,22 +37,22 @@ use Rattle.um_description.proofs.WithoutLimits.{contents_right}
 
 -- ---- the partition that a text names
 
-abbrev placed_at : Mpu → List ℕ → List PartitionEntry → List Partition
+abbrev pub placed_at : Mpu → List ℕ → List PartitionEntry → List Partition
 placed_at mpu places ps = placed_partitions (ranges_at places (sizes_asked mpu ps)) ps
 
-abbrev number_in : List PartitionEntry → Text → ℕ
+abbrev pub number_in : List PartitionEntry → Text → ℕ
 number_in ps text = number_named (map partition_name ps) text
 
 -- the size that it asks for, and where it stands, with at least as many bytes
-record Stands (mpu : Mpu) (places : List ℕ) (ps : List PartitionEntry) (text : Text) : Type 0 where
-  q : Partition
-  size : ℕ
-  found : slice_get (placed_at mpu places ps) (number_in ps text) ≡ Some q
-  asked : size_named text ps ≡ Some size
-  small : size ≤ 65536
-  room : size ≤ q.range.size
-  start : q.range.start.0 ≡ slice_index places (number_in ps text)
-  wide : q.range.size ≡ slice_index (sizes_asked mpu ps) (number_in ps text)
+pub record Stands (mpu : Mpu) (places : List ℕ) (ps : List PartitionEntry) (text : Text) : Type 0 where
+  pub q : Partition
+  pub size : ℕ
+  pub found : slice_get (placed_at mpu places ps) (number_in ps text) ≡ Some q
+  pub asked : size_named text ps ≡ Some size
+  pub small : size ≤ 65536
+  pub room : size ≤ q.range.size
+  pub start : q.range.start.0 ≡ slice_index places (number_in ps text)
+  pub wide : q.range.size ≡ slice_index (sizes_asked mpu ps) (number_in ps text)
 
 stands_here : (mpu : Mpu) (place i : ℕ) (places : List ℕ) (p : PartitionEntry) (ps : List PartitionEntry) (text : Text) → bytes_eq text p.name ≡ true → partition_limits i p ≡ []
     → Stands mpu (place ∷ places) (p ∷ ps) text
@@ -102,18 +102,18 @@ stands mpu (place ∷ places) i (p ∷ ps) text same known h =
 
 -- ---- a futex in it
 
-abbrev places_in : Description → List ℕ
+abbrev pub places_in : Description → List ℕ
 places_in d = starts d.mpu PARTITION_AREA (partition_sizes d)
 
 -- four bytes from its offset on lie in the partition that it names
-record LiesIn (d : Description) (f : FutexEntry) : Type 0 where
-  known : IsTrue (is_known (partition_names d) f.partition)
-  at : Stands d.mpu (places_in d) d.partitions f.partition
-  offset : ℕ
-  is : f.offset ≡ pos offset
-  fits : offset + 4 ≤ at.size
+pub record LiesIn (d : Description) (f : FutexEntry) : Type 0 where
+  pub known : IsTrue (is_known (partition_names d) f.partition)
+  pub at : Stands d.mpu (places_in d) d.partitions f.partition
+  pub offset : ℕ
+  pub is : f.offset ≡ pos offset
+  pub fits : offset + 4 ≤ at.size
 
-abbrev AllLie : Description → List FutexEntry → Type 0
+abbrev pub AllLie : Description → List FutexEntry → Type 0
 AllLie d [] = Unit {0}
 AllLie d (f ∷ fs) = LiesIn d f × AllLie d fs
 
@@ -160,10 +160,10 @@ all_lie d i (f ∷ fs) within known h =
 
 -- ---- they are lawful
 
-abbrev futex_in : Description → FutexEntry → Futex
+abbrev pub futex_in : Description → FutexEntry → Futex
 futex_in d f = futex_of (partition_names d) f
 
-offset_is : (d : Description) (f : FutexEntry) (h : LiesIn d f) → clamped f.offset ≡ h.offset
+pub offset_is : (d : Description) (f : FutexEntry) (h : LiesIn d f) → clamped f.offset ≡ h.offset
 offset_is d f h =
     let is = h.is in
     let fits = h.fits in
@@ -239,7 +239,7 @@ other_addr d f g a b other =
     ne_eqb (futex_addr (image_of d) (futex_in d f)) (futex_addr (image_of d) (futex_in d g))
     (λ is. true≢false (sym (text_itself (spot_text f)) ∙ ap (bytes_eq (spot_text f)) (same_spot d f g a b is) ∙ other))
 
-abbrev addrs : Description → List FutexEntry → List ℕ
+abbrev pub addrs : Description → List FutexEntry → List ℕ
 addrs d fs = map (futex_addr (image_of d)) (map (futex_of (partition_names d)) fs)
 
 no_addr : (d : Description) (f : FutexEntry) (fs : List FutexEntry) → LiesIn d f → AllLie d fs → is_among (spot_text f) (map spot_text fs) ≡ false

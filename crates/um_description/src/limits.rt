@@ -333,13 +333,28 @@ fn offset_limit(place: Place, n: i64, size: Option<u32>) -> Option<Flaw>
     }
 }
 
+/// The offset of a futex, where four bytes from there on don't lie in its partition.
+fn futex_offset_limit(
+    partitions: &[PartitionEntry],
+    place: Place,
+    futex: &FutexEntry,
+) -> Option<Flaw>
+    ensures { result ≡ first_of (limits.offset_limits place futex.now.offset (limits.size_named futex.now.partition partitions.now)) }
+{
+    let size = size_named(futex.partition.as_slice(), partitions);
+    offset_limit(place, futex.offset, size)
+}
+
 #[tactic(auto, using(crate::proofs::Firsts::first_or), unfolding(crate::specs::Limits::futex_limits))]
 fn futex_limit(partitions: &[PartitionEntry], i: usize, futex: &FutexEntry) -> Option<Flaw>
     ensures { result ≡ first_of (limits.futex_limits partitions.now i futex.now) }
 {
-    let place = Place::Field(Section::Futex, i, Key::Offset);
-    let size = size_named(futex.partition.as_slice(), partitions);
-    one_too_many(Section::Futex, FUTEXES, i).or(offset_limit(place, futex.offset, size))
+    let offset = futex_offset_limit(
+        partitions,
+        Place::Field(Section::Futex, i, Key::Offset),
+        futex,
+    );
+    one_too_many(Section::Futex, FUTEXES, i).or(offset)
 }
 
 fn object_limits(objects: &[ObjectEntry]) -> Option<Flaw>

@@ -1,7 +1,7 @@
 //! Script lines, with the addresses and numbers of what they name.
 
-ghost use Rattle.std.specs.Prelude.{◌≡◌, ◌≤◌, ◌%◌, ◌^◌, List, ℕ, length, map};
-ghost use Rattle.um_base.specs.Lawful.{futex_addr};
+ghost use Rattle.std.specs.Prelude.{◌≡◌, ◌≤◌, ◌+◌, ◌%◌, ◌^◌, List, ℕ, length, map, slice_get};
+ghost use Rattle.um_base.specs.Lawful.{futex_addr, futex_start};
 ghost use Rattle.um_base.specs.declared.limits.TheConstants.{DOMAINS, PARTITIONS, SCRIPTS};
 ghost use Rattle.um_description.specs.{
   Names.{partition_names},
@@ -24,14 +24,21 @@ fn start_named(partitions: &[Partition], name: &Name, other: u32) -> u32
     other
 }
 
+/// Where the partition of a number begins, or 0.
+fn start_of(partitions: &[Partition], number: u8) -> u32
+    ensures { (offset : ℕ) → futex_start (slice_get partitions.now number) offset ≡ result + offset }
+{
+    match partitions.get(number as usize) {
+        None => 0,
+        Some(partition) => partition.range.start.0,
+    }
+}
+
 /// The address of a futex.
 fn futex_addr(image: &Image, futex: &Futex) -> u32
     ensures { result ≡ futex_addr image.now futex.now % 2 ^ 32 }
 {
-    match image.partitions.as_slice().get(futex.partition as usize) {
-        None => futex.offset,
-        Some(partition) => partition.range.start.0.wrapping_add(futex.offset),
-    }
+    start_of(image.partitions.as_slice(), futex.partition).wrapping_add(futex.offset)
 }
 
 /// The address of the futex with this name, or another one.
