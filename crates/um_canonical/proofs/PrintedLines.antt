@@ -291,12 +291,27 @@ line_shown image e d alike (Instr.TimerSync object to) h known =
     let p0 = and_true (is_term object) (is_register to && true) h in
     let p1 = and_true (is_register to) true p0.1 in
     record { writable = rw (term_word image d object p0.0, p1.0) refl; again = rw (term_twice image e d object) refl; bracket = refl; script = refl; known = rw (silent image d object 1) refl }
-line_shown image e d alike (Instr.Abort thread) h known = absurd (false≢true h)
-line_shown image e d alike (Instr.Join thread timeout) h known = absurd (false≢true h)
-line_shown image e d alike (Instr.Suspend thread) h known = absurd (false≢true h)
-line_shown image e d alike (Instr.Continue thread) h known = absurd (false≢true h)
-line_shown image e d alike (Instr.FutexWait addr value timeout) h known = absurd (false≢true h)
-line_shown image e d alike (Instr.FutexWake addr all) h known = absurd (false≢true h)
+line_shown image e d alike (Instr.Abort thread) h known =
+    let p0 = and_true (is_term thread) true h in
+    record { writable = rw (term_word image d thread p0.0) refl; again = rw (term_twice image e d thread) refl; bracket = refl; script = refl; known = rw (silent image d thread 1) refl }
+line_shown image e d alike (Instr.Join thread timeout) h known =
+    let p0 = and_true (is_term thread) (is_wait timeout && true) h in
+    let p1 = and_true (is_wait timeout) true p0.1 in
+    record { writable = rw (term_word image d thread p0.0, p1.0) refl; again = rw (term_twice image e d thread) refl; bracket = refl; script = refl; known = rw (silent image d thread 1) refl }
+line_shown image e d alike (Instr.Suspend thread) h known =
+    let p0 = and_true (is_term thread) true h in
+    record { writable = rw (term_word image d thread p0.0) refl; again = rw (term_twice image e d thread) refl; bracket = refl; script = refl; known = rw (silent image d thread 1) refl }
+line_shown image e d alike (Instr.Continue thread) h known =
+    let p0 = and_true (is_term thread) true h in
+    record { writable = rw (term_word image d thread p0.0) refl; again = rw (term_twice image e d thread) refl; bracket = refl; script = refl; known = rw (silent image d thread 1) refl }
+line_shown image e d alike (Instr.FutexWait addr value timeout) h known =
+    let p0 = and_true (is_term addr) (is_term value && (is_wait timeout && true)) h in
+    let p1 = and_true (is_term value) (is_wait timeout && true) p0.1 in
+    let p2 = and_true (is_wait timeout) true p1.1 in
+    record { writable = rw (term_word image d addr p0.0, term_word image d value p1.0, p2.0) refl; again = rw (term_twice image e d addr, term_twice image e d value) refl; bracket = refl; script = refl; known = rw (silent image d addr 1, silent image d value 2) refl }
+line_shown image e d alike (Instr.FutexWake addr all) h known =
+    let p0 = and_true (is_term addr) true h in
+    record { writable = rw (term_word image d addr p0.0) refl; again = rw (term_twice image e d addr) refl; bracket = refl; script = refl; known = rw (silent image d addr 1) refl }
 
 -- what is printed for a line is read as what was shown
 pub line_again : (image : Image) (e d : Description) → AreNamedAlike e d → (line : Instr) → IsTrue (is_line line) → IsTrue (list_all (knows d) (mentions line))
