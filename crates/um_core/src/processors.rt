@@ -5,11 +5,11 @@ ghost use Rattle.um_base.specs.Lawful.{IsLawful};
 ghost use Rattle.um_machine.specs.Memory.{rodata_of};
 ghost use Rattle.um_fine.specs.{Processor.{idle}, Steps.{FineStep}};
 ghost use Rattle.um_steps.specs.Given.{IsGiven};
-ghost use Rattle.um_processor.specs.Standing.{whole};
+ghost use Rattle.um_processor.specs.{Idles.{is_turn}, Standing.{whole}};
 ghost use Rattle.um_core.specs.{
   Cores.{IsOpened},
-  CoreSteps.{AllHalt, FirstSteps, GoesOn, Halts, IsCoreOf, Steps, is_made},
-  PickedRun.{NoneFollows},
+  CoreSteps.{AllHalt, FirstSteps, GoesOn, Halts, IsCoreOf, IsRefused, LetsStand, Steps, is_made, processor_at},
+  PickedRun.{NoneIsNext},
 };
 
 use std::alloc::Global;
@@ -30,7 +30,7 @@ pub struct Core {
 impl Model for Core {
     ghost use Rattle.std.specs.Prelude.{map};
     ghost use Rattle.um_core.specs.Cores.{Core as Parts};
-    ghost use Rattle.um_processor.specs.Standing.{whole};
+    ghost use Rattle.um_processor.specs.{Idles.{is_turn}, Standing.{whole}};
 
     ghost Value = { Parts };
 
@@ -74,18 +74,20 @@ impl Core {
     /// thread runs, it lets time go on.
     fn tend(&mut self, image: &Image, cpu: u8) -> bool
         requires idle { (processor_at self.old cpu).todo ≡ [] }
+        requires ready { (e : FineStep) × (is_turn e.act ≡ true) × IsRefused image.now self.old cpu e }
         requires given { IsGiven image.now }
         requires rodata { self.old.sites.rodata ≡ rodata_of image.now }
         requires cpu { cpu < length self.old.processors }
         ensures rodata { self.new.sites.rodata ≡ rodata_of image.now }
         ensures steps { result ≡ true → Steps image.now cpu self.old self.new }
         ensures same { result ≡ false → self.new ≡ self.old }
-        ensures tends { result ≡ true → Tends self.old self.new }
-        ensures waits { result ≡ false → TendsNot image.now self.old cpu }
+        ensures stands { result ≡ false → LetsStand image.now self.old cpu }
     {
         let processor = &mut self.processors[cpu as usize];
-        if is_made(processor.give(image, cpu, &mut self.sites)) {
-            return true;
+        match processor.give(image, cpu, &mut self.sites) {
+            Turn::Made => return true,
+            Turn::Busy => {}
+            Turn::Changed | Turn::Stuck => return false,
         }
         if self.sites.scheduler_cell().running() > 0 {
             return false;
@@ -107,15 +109,14 @@ impl Core {
         ensures goes { (cpus : ℕ) (done : List FineStep) → IsCoreOf image.now cpus done self.old
             → cpu < cpus → result ≡ true → GoesOn image.now cpus done cpu self.new }
         ensures none { (cpus : ℕ) (done : List FineStep) → IsCoreOf image.now cpus done self.old
-            → cpu < cpus → result ≡ false → NoneFollows image.now cpus done cpu }
+            → cpu < cpus → result ≡ false → NoneIsNext image.now cpus done cpu }
     {
         longest_fine_run();
         let processor = &mut self.processors[cpu as usize];
-        if is_made(processor.step(image, cpu, &mut self.sites)) {
-            return true;
-        }
-        if !processor.is_idle() {
-            return false;
+        match processor.step(image, cpu, &mut self.sites) {
+            Turn::Made => return true,
+            Turn::Busy if processor.is_idle() => {}
+            Turn::Busy | Turn::Changed | Turn::Stuck => return false,
         }
         self.tend(image, cpu)
     }
