@@ -22,6 +22,7 @@ mod VisitOrder
 mod CleanOrder
 mod TakeSteps
 mod TakeOrder
+mod TickOrder
 mod Reserves
 mod FullKept
 mod OneStep

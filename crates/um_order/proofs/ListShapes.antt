@@ -152,12 +152,14 @@ module _ (image : Image) where
         start = λ who q rest c. (refl, refl);
       })
 
-  -- a step that may show an event of its own thread
+  -- a step that may show an event of its own thread, or one of time
   abbrev pub is_own : Todos → Bool
   is_own [] = true
   is_own (Todo.show q rest ∷ todo) = true
   is_own (Todo.pass who x ∷ todo) = true
   is_own (Todo.drop x ∷ todo) = true
+  is_own (Todo.leave ∷ todo) = is_own todo
+  is_own (Todo.handle deadline mark ∷ Todo.paid ∷ []) = true
   is_own _ = false
 
   pub own-clear : (x : ℕ) (c : Context) (todo : Todos) → Fits image c todo → is_own todo ≡ true → EndsNone x todo
@@ -168,4 +170,6 @@ module _ (image : Image) where
       subst (λ (z : Todos). (counted (is_end_call x) z ≡ 0) × (counted (is_recycle x) z ≡ 0)) (sym fits.0.behind) (fine-ends x c fits.0.step fits.0.rest)
   own-clear x c (Todo.drop y ∷ todo) fits own =
       subst (λ (z : Todos). (counted (is_end_call x) z ≡ 0) × (counted (is_recycle x) z ≡ 0)) (sym fits.behind) (fine-ends x c fits.step fits.rest)
+  own-clear x c (Todo.leave ∷ todo) fits own = own-clear x c todo fits.1 own
+  own-clear x c (Todo.handle deadline mark ∷ Todo.paid ∷ []) fits own = (refl, refl)
   own-clear x c (q ∷ todo) fits own = absurd (false≢true own)
