@@ -18,6 +18,8 @@ mod EventLines
 mod NextSteps
 mod Follow
 mod ShowSteps
+mod ArmOrder
+mod LeaveOrder
 mod VisitOrder
 mod CleanOrder
 mod TakeSteps

@@ -121,6 +121,22 @@ module _ (m : State) (t : ℕ) where
         false≢true (ap is_some (sym none ∙ second))),
       ))
 
+  -- also where the drops of the end are left, and none of them is due
+  pub left-behind : (from : ℕ) (a : Addr) (rest : Steps) → (thread_at m t).pending ≡ Pending.Drops from ∷ Pending.ClearInit a ∷ rest → IsFull m t (thread_at m t).pending → IsTrue (none_due (thread_at m t))
+      → IsTrue (is_ending (thread_at m t)) → (T.row_of m a == own_row m.image t) ≡ true → is_joined m t ≡ true → IsNextStep m t Pending.Left 0
+  left-behind from a rest e full due ending own joined =
+      inr
+      (inr
+      (
+        refl,
+        refl,
+        ending,
+        no-first (Pending.Drops from) (Pending.ClearInit a) rest e (drops-none from (Pending.ClearInit a ∷ rest) e full due),
+        (λ step second x may.
+        let taken = subst (λ p. MayTake m t p x) (same-some step (Pending.ClearInit a) (sym second ∙ second-is (Pending.Drops from) (Pending.ClearInit a) rest e refl due)) may in
+        false≢true (sym (λ i. not (own i && joined i)) ∙ taken.0)),
+      ))
+
   -- the steps that choose a row or an answer
   abbrev is_choosy : Pending → Bool
   is_choosy (Pending.Reserve kind) = true

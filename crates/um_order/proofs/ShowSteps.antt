@@ -90,14 +90,14 @@ first-goes : (q : Pending) (rest : Steps) → IsShown q → goes (q ∷ rest) �
 first-goes Pending.Resume rest h = absurd h
 first-goes q rest h = refl
 
-goes-offered : (image : Image) (c : Context) {q : Pending} {rest : Steps} → IsShown q → IsOffered image c q rest → (c.pending ≡ []) ⊎ (goes c.pending ≡ true)
+pub goes-offered : (image : Image) (c : Context) {q : Pending} {rest : Steps} → IsShown q → IsOffered image c q rest → (c.pending ≡ []) ⊎ (goes c.pending ≡ true)
 goes-offered image c shown (O.goes {q} {rest} e) = inr (ap goes e ∙ first-goes q rest shown)
 goes-offered image c shown (O.passed e) = inr (ap goes e)
 goes-offered image c shown (O.dropped e) = inr (ap goes e)
 goes-offered image c shown (O.begins e on i) = inl e
 goes-offered image c shown (O.exits e on i) = inl e
 
-goes-some : (c : Context) → goes c.pending ≡ true → (is_empty c.pending ≡ false) × (inside_of c ≡ Some (to_thread c.thread))
+pub goes-some : (c : Context) → goes c.pending ≡ true → (is_empty c.pending ≡ false) × (inside_of c ≡ Some (to_thread c.thread))
 goes-some c h = (by c.pending h, ap (λ b. if b then Some (to_thread c.thread) else None) h)
   where
     by : (steps : Steps) → goes steps ≡ true → is_empty steps ≡ false
@@ -204,7 +204,7 @@ replies-numbers : (ws : List (ThreadIx × Told)) → map (λ (w : ThreadIx × Re
 replies-numbers [] = refl
 replies-numbers (w ∷ ws) = ap (λ l. w.0.0 ∷ l) (replies-numbers ws)
 
-told-numbers : (ws : List (ThreadIx × Reply)) → map (λ (w : ThreadIx × Reply). w.0.0) ws ≡ woken_of (named (told_all ws))
+pub told-numbers : (ws : List (ThreadIx × Reply)) → map (λ (w : ThreadIx × Reply). w.0.0) ws ≡ woken_of (named (told_all ws))
 told-numbers [] = refl
 told-numbers (w ∷ ws) = ap (λ l. w.0.0 ∷ l) (told-numbers ws)
 
@@ -223,7 +223,7 @@ stirs (Pending.Continue who) act = is_done_in act
 stirs q act = false
 
 module _ (image : Image) (P : Todos → Type 0) (woke : (who : ℕ) (told : Told) (todo : Todos) → P todo → P (Todo.wake who told ∷ todo)) (over : (x : ℕ) (todo : Todos) → P todo → P (Todo.end_call x ∷ todo)) where
-  wakes-so : (ws : List (ThreadIx × Told)) (todo : Todos) → P todo → P (wakes ws todo)
+  pub wakes-so : (ws : List (ThreadIx × Told)) (todo : Todos) → P todo → P (wakes ws todo)
   wakes-so [] todo h = h
   wakes-so (w ∷ ws) todo h = woke w.0.0 w.1 (wakes ws todo) (wakes-so ws todo h)
 
@@ -281,19 +281,19 @@ module _ (f : Fine) (at : Point) (e : FineStep) (law : Lawful f at.state e) (one
       ap (λ b. (if b then record p { todo = put_away (thread_in e.word).doomed } else after_show f.image p e (shown_step f.image h.listed e.act) rest todo).context) h.shown
       ∙ ap (λ r. (after_show f.image p e r rest todo).context) h.made
 
-  context : now.context ≡ continues f.image p.context 0 q rest (act_in e.act) e.moved
+  pub context : now.context ≡ continues f.image p.context 0 q rest (act_in e.act) e.moved
   context = now-context f m e law (Todo.show h.listed rest ∷ todo) h.at ∙ goes-context
 
-  thread : now.context.thread ≡ t
+  pub thread : now.context.thread ≡ t
   thread = ap (λ (c : Context). c.thread) context ∙ continues-thread f.image p.context 0 q rest (act_in e.act) e.moved
 
   how : Leaves f m e s2
   how = event q rest todo x h shown is
 
-  uncut : cuts later t ≡ 0
+  pub uncut : cuts later t ≡ 0
   uncut = event-uncut f m e law suits all s2 (event q rest todo x h shown is) (Todo.show h.listed rest) todo h.at tt (own-part h) h.awake
 
-  of : IsOf later s2 now.context
+  pub of : IsOf later s2 now.context
   of = subst (IsOf later s2) (sym context) (of-kept f m e law suits all rest todo x q h shown is uncut)
 
   frame : Behind f.image (Todo.show h.listed rest) todo
