@@ -1,6 +1,6 @@
 //! The contents of the clock's cell.
 
-ghost use Rattle.std.specs.Prelude.{◌≡◌, ◌<◌, ◌≤◌, ◌+◌, [], ◌∷◌, ◌++◌, None, drop, length, if◌then◌else◌, nat_lt, false, IfOk, MatchOption};
+ghost use Rattle.std.specs.Prelude.{◌≡◌, ◌<◌, ◌≤◌, ◌+◌, ◌⊎◌, [], ◌∷◌, ◌++◌, None, drop, length, if◌then◌else◌, nat_lt, false, true, IfOk, MatchOption};
 ghost use Rattle.um_fine.specs.Clock.{deadlines, first_due, give_first, settle_first};
 ghost use Rattle.um_machine.specs.Time.{least, next_deadline};
 ghost use Rattle.um_tables.specs.Timed.{at_rest, given_of, later_of, time_of, with_marks, with_time};
@@ -10,6 +10,9 @@ use std::alloc::Global;
 use std::marker::Model;
 use um_base::OutOfMemory;
 use um_words::Mark;
+
+/// The greatest number of marks.
+const MOST: usize = 0xfff_ffff;
 
 /// Virtual time, and the marks that were armed, in their order. Room for all is reserved from the beginning.
 #[derive(Drop)]
@@ -119,6 +122,17 @@ impl Clock {
         ensures { result ≡ time_of self.now }
     {
         self.time
+    }
+
+    /// Whether no mark more can be armed: there are as many as there is room for, or 2^28 - 1.
+    pub fn is_full(&self) -> bool
+        ensures open { result ≡ false → (length self.now.clock.marks < self.now.most)
+            × (length self.now.clock.marks < 268435455) }
+        ensures full { result ≡ true → (self.now.most ≤ length self.now.clock.marks)
+            ⊎ (268435455 ≤ length self.now.clock.marks) }
+    {
+        let many = self.marks.len();
+        self.marks.capacity() <= many || many >= MOST
     }
 
     /// Arms a deadline so many ticks from now, for this. Returns the deadline.
