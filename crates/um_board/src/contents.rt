@@ -2,7 +2,7 @@
 
 ghost use Rattle.std.specs.Prelude.{◌≡◌, ℕ};
 ghost use Rattle.um_fine.specs.Cells.{cell_word, quiet_word};
-ghost use Rattle.um_board.specs.Kept.{cell_of};
+ghost use Rattle.um_board.specs.Kept.{HasRoom, cell_of, room_of};
 
 use crate::object_room::ObjectRoom;
 use std::marker::Model;
@@ -42,7 +42,7 @@ const NONE: Counts = Counts {
     owed: 0,
 };
 
-/// What a cell of an image's board keeps. The image is ghost data.
+/// What a cell of an image's board keeps. A clock has room for as many marks as the image's weight. The image is ghost data.
 #[derive(Drop)]
 pub struct Contents {
     image: Snapshot<Image>,
@@ -50,11 +50,13 @@ pub struct Contents {
 }
 
 impl Model for Contents {
-    ghost use Rattle.um_board.specs.{Contents.{Known}, Kept.{cell_of}};
+    ghost use Rattle.um_board.specs.{Contents.{Known}, Kept.{HasRoom, cell_of, room_of}};
 
     ghost Value = { Known };
 
     ghost view = { λ c. record { image = c.image.value; cell = cell_of c.kept } };
+
+    ghost invariant = { λ c. HasRoom c.image.value (room_of c.kept) };
 }
 
 impl Content for Contents {
@@ -68,6 +70,7 @@ impl Content for Contents {
 impl Contents {
     /// Makes what a cell of this image's board keeps.
     pub fn new(image: &Image, kept: Kept) -> Contents
+        requires { HasRoom image.now (room_of kept) }
         ensures { result ≡ record { image = image.now; cell = cell_of kept } }
     {
         Contents {
@@ -100,7 +103,8 @@ impl Contents {
 
     /// What is kept.
     pub(crate) fn into_kept(self) -> Kept
-        ensures { self.cell ≡ cell_of result }
+        ensures cell { self.cell ≡ cell_of result }
+        ensures room { HasRoom self.image (room_of result) }
     {
         let Contents { image: _, kept } = self;
         kept

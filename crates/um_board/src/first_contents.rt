@@ -1,10 +1,11 @@
 //! The contents with which the cells of an image's board open.
 
-ghost use Rattle.std.specs.Prelude.{◌≡◌, ◌+◌, ◌<◌, ℕ, IfOk, length, slice_index_or};
+ghost use Rattle.std.specs.Prelude.{◌≡◌, ◌+◌, ◌<◌, ◌≤◌, ℕ, IfOk, length, slice_index_or};
+ghost use Rattle.um_base.specs.Weight.{weight};
 ghost use Rattle.um_base.specs.declared.limits.TheConstants.{DOMAINS, ROWS};
 ghost use Rattle.um_fine.specs.{Cells.{Cell}, Sites.{site_numbered}, Steps.{Site}};
 ghost use Rattle.um_tables.specs.ObjectCells.{cleared};
-ghost use Rattle.um_board.specs.{Kept.{cell_of}, Opening.{AreDomainCells, AreFirst, AreObjects, OpensWith}};
+ghost use Rattle.um_board.specs.{Kept.{HasRoom, cell_of, room_of}, Opening.{AreDomainCells, AreFirst, AreObjects, OpensWith}};
 
 use crate::contents::{Contents, Kept};
 use crate::object_room::ObjectRoom;
@@ -19,6 +20,7 @@ const CELLS: usize = 141;
 fn add(image: &Image, all: &mut Vec<Contents>, kept: Kept) -> Result<(), OutOfMemory>
     requires first { AreFirst image.now all.old.items }
     requires opens { OpensWith image.now (site_numbered (168 + length all.old.items)) (cell_of kept) }
+    requires room { HasRoom image.now (room_of kept) }
     ensures first { IfOk result (λ _. AreFirst image.now all.new.items) }
     ensures one { IfOk result (λ _. length all.new.items ≡ length all.old.items + 1) }
 {
@@ -99,6 +101,7 @@ pub fn first_contents(
     requires scheduler { OpensWith image.now Site.scheduler (Cell.scheduler scheduler) }
     requires clock { OpensWith image.now Site.clock (Cell.clock clock.clock) }
     requires joins { OpensWith image.now Site.joins (Cell.joins joins) }
+    requires room { weight image.now ≤ clock.most }
     ensures first { IfOk result (λ all. AreFirst image.now all.items) }
     ensures all { IfOk result (λ all. length all.items ≡ 141) }
 {

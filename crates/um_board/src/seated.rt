@@ -12,6 +12,7 @@ ghost use Rattle.um_fine.specs.{
 ghost use Rattle.um_site.specs.Tells.{NoOlder, last_got};
 ghost use Rattle.um_tables.specs.Asked.{Takes, event_of};
 ghost use Rattle.um_board.specs.{
+  Kept.{HasRoom},
   NextSteps.{IsNext},
   Noted.{made_of, number_of},
   Placed.{AsksTurn, HasMadeNone, HasMadeThere, HasSeen, HasTurnAt, IsAt},
@@ -204,7 +205,7 @@ impl<'a> Seated<'a> {
         requires image { IsAt image.now self.old }
         requires site { (168 ≤ site) × (site < 309) × (cell_kind_at site ≡ K.kind) }
         ensures unnoted { HasMadeNone self.old self.new }
-        ensures turn { AsksTurn K.cell image.now self.old site result self.new }
+        ensures turn { AsksTurn K.cell K.room image.now self.old site result self.new }
     {
         if self.look(image, site) % 2 == 1 {
             return None;
@@ -217,7 +218,7 @@ impl<'a> Seated<'a> {
         requires image { IsAt image.now self.old }
         requires site { (168 ≤ site) × (site < 309) × (cell_kind_at site ≡ K.kind) }
         ensures unnoted { HasMadeNone self.old self.new }
-        ensures turn { AsksTurn K.cell image.now self.old site result self.new }
+        ensures turn { AsksTurn K.cell K.room image.now self.old site result self.new }
     {
         let held = match self.cells.take(self.board, &mut self.seat, site) {
             Err(_) => return None,
@@ -253,6 +254,7 @@ impl<'a> Seated<'a> {
     pub(crate) fn put_back<K: Kind>(&mut self, image: &Image, site: u16, turn: Turn<K>, cell: K)
         requires turn { HasTurnAt image.now self.old site turn.word turn.number (K.cell turn.before.value) }
         requires same { K.cell cell ≡ K.cell turn.before.value }
+        requires room { HasRoom image.now (K.room cell) }
         ensures image { IsAt image.now self.new }
         ensures unnoted { HasMadeNone self.old self.new }
     {
@@ -284,6 +286,7 @@ impl<'a> Seated<'a> {
         requires takes { Takes here.now.image.now
             (SiteState.cell turn.number (K.cell turn.before.value)) D.step
             (SiteState.cell (turn.number + 1) (K.cell cell)) }
+        requires room { HasRoom here.now.image.now (K.room cell) }
         requires site { site_number D.step.site ≡ site }
         requires there { IsTrue (is_site D.step.site) }
         requires cpu { D.step.cpu ≡ here.now.cpu }

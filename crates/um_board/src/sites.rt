@@ -406,6 +406,10 @@ impl Sites for Seated<'_> {
         let Some((turn, mut cell)) = self.turn::<Box<Clock>>(here.image, CLOCK) else {
             return Said::Changed;
         };
+        if cell.is_full() {
+            self.put_back(here.image, CLOCK, turn, cell);
+            return Said::Changed;
+        }
         let deadline = cell.arm(ticks, mark);
         let event = Some(armed(thread, deadline));
         self.leave_cell::<Brand, _, _>(here, CLOCK, 0, turn, cell, &event, &(thread, ticks, mark));
