@@ -1,4 +1,4 @@
-use Rattle.std.proofs.Common.{rules, ◌≡◌, ◌∙◌, ap, refl, subst, false, nat_lt, ◌<◌}
+use Rattle.std.proofs.Common.{arith, rules, ◌≡◌, ◌∙◌, ap, refl, subst, false, nat_lt, ◌<◌}
 use Rattle.std.proofs.lemmas.Bool.{lt-ltb}
 use Rattle.um_fine.specs.Cells.{Cell}
 use Rattle.um_fine.specs.Scheduler.{Scheduler, one_less}
@@ -30,7 +30,7 @@ returns-then-not-done-clause-said c =
     let was : c.deref_mut.result.now ≡ d = search rules in
     let t = c.in-Some.ensures.turn.1 in
     let denied = subst (λ (x : Scheduler). nat_lt 0 x.running ≡ false) was (ap (nat_lt 0) (c.if-not-done.ensures.refused refl).1) in
-    let shut = refused c.args.here.now.image.now c.args.here.now.cpu c.in-Some.turn.number _ d Unseen.Done Exchange.nothing _ _ _ _ _ _ c.in-Some.ensures.unnoted c.put_back.ensures.unnoted t.turn.says t.got t.saw denied in
+    let shut = refused c.args.here.now.image.now c.args.here.now.cpu Site.scheduler c.in-Some.turn.number _ (Cell.scheduler d) (FineAct.Unseen Unseen.Done) Exchange.nothing _ _ _ _ _ _ c.in-Some.ensures.unnoted c.put_back.ensures.unnoted (omega arith) t.turn.says t.got t.saw denied in
     (c.in-Some.turn.number, d, shut.0, shut.1)
 
 pub put_back-requires-clause-same : goal.put_back-requires-clause-same

@@ -1,4 +1,4 @@
-use Rattle.std.proofs.Common.{rules, refl, ◌≡◌, ◌∙◌, ap, sym, subst, None, false, nat_lt, ◌&&◌, Bool, IsTrue}
+use Rattle.std.proofs.Common.{arith, rules, refl, ◌≡◌, ◌∙◌, ap, sym, subst, None, false, nat_lt, ◌&&◌, Bool, IsTrue}
 use Rattle.um_machine.specs.Order.{to_thread}
 use Rattle.um_fine.specs.Cells.{Cell}
 use Rattle.um_fine.specs.Steps.{Exchange, Site}
@@ -42,7 +42,7 @@ returns-in-None-clause-said c =
     let t = c.in-Some.ensures.turn.1 in
     let r = c.in-None.ensures in
     let denied = subst (λ (x : Scheduler). (nat_lt 0 x.running && has_place x) ≡ false) was r.2 in
-    let shut = refused c.args.here.now.image.now c.args.here.now.cpu c.in-Some.turn.number _ d (Unseen.Park (to_thread c.args.context.now.value.thread) false) (Exchange.thread c.args.context.now.value None) _ _ _ _ _ _ c.in-Some.ensures.unnoted c.put_back.ensures.unnoted t.turn.says t.got t.saw denied in
+    let shut = refused c.args.here.now.image.now c.args.here.now.cpu Site.scheduler c.in-Some.turn.number _ (Cell.scheduler d) (FineAct.Unseen (Unseen.Park (to_thread c.args.context.now.value.thread) false)) (Exchange.thread c.args.context.now.value None) _ _ _ _ _ _ c.in-Some.ensures.unnoted c.put_back.ensures.unnoted (omega arith) t.turn.says t.got t.saw denied in
     (c.in-Some.turn.number, d, shut.0, shut.1, r.1)
 
 pub put_back-requires-clause-same : goal.put_back-requires-clause-same

@@ -1,4 +1,4 @@
-use Rattle.std.proofs.Common.{rules, ◌≡◌, ◌∙◌, ap, refl, sym, subst, ℕ, IsTrue, Some, None, false, if◌then◌else◌}
+use Rattle.std.proofs.Common.{arith, rules, ◌≡◌, ◌∙◌, ap, refl, sym, subst, ℕ, IsTrue, Some, None, false, if◌then◌else◌}
 use Rattle.um_fine.specs.Cells.{Cell}
 use Rattle.um_fine.specs.Steps.{Exchange, Site}
 use Rattle.um_base.specs.declared.act.Act.{Act}
@@ -53,7 +53,7 @@ returns-in-None-clause-said c =
     let denied = next-takes d (to_thread 0) ∙ subst (λ (x : Scheduler). has_ready x x.ready ≡ false) was r.3 in
     let looked = c.look-seen.ensures.unnoted in
     let t = c.in-Some.ensures.turn.1 in
-    let shut = refused c.args.here.now.image.now c.args.here.now.cpu c.in-Some.turn.number _ d (Unseen.Next (to_thread 0)) Exchange.nothing _ _ _ _ _ _ (unnoted-then _ _ _ _ _ _ looked c.in-Some.ensures.unnoted) c.put_back.ensures.unnoted t.turn.says (got-first _ _ _ looked.got.0 _ _ looked.got.1 t.got) (cell-first _ _ _ _ _ _ _ looked t.saw) denied in
+    let shut = refused c.args.here.now.image.now c.args.here.now.cpu Site.scheduler c.in-Some.turn.number _ (Cell.scheduler d) (FineAct.Unseen (Unseen.Next (to_thread 0))) Exchange.nothing _ _ _ _ _ _ (unnoted-then _ _ _ _ _ _ looked c.in-Some.ensures.unnoted) c.put_back.ensures.unnoted (omega arith) t.turn.says (got-first _ _ _ looked.got.0 _ _ looked.got.1 t.got) (cell-first _ _ _ _ _ _ _ looked t.saw) denied in
     (c.in-Some.turn.number, d, shut.0, shut.1, (r.1, r.2))
 
 pub returns-then-read-eq0-clause-said : goal.returns-then-read-eq0-clause-said

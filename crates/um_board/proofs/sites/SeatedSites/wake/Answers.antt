@@ -1,4 +1,4 @@
-use Rattle.std.proofs.Common.{rules, ◌≡◌, ◌∙◌, ap, subst, false, Bool, IsTrue, is_some}
+use Rattle.std.proofs.Common.{arith, rules, ◌≡◌, ◌∙◌, ap, subst, false, Bool, IsTrue, is_some}
 use Rattle.um_fine.specs.Cells.{Cell}
 use Rattle.um_fine.specs.Steps.{Exchange, Site}
 use Rattle.um_fine.specs.Scheduler.{Scheduler, has_place, parked_at}
@@ -30,7 +30,7 @@ returns-in-None-clause-said c =
     let was : c.deref_mut.result.now ≡ d = search rules in
     let t = c.in-Some.ensures.turn.1 in
     let denied = subst (λ (x : Scheduler). has_place x ≡ false) was c.in-None.ensures.1 in
-    let shut = refused c.args.here.now.image.now c.args.here.now.cpu c.in-Some.turn.number _ d (Unseen.Wake c.args.who false) (Exchange.told c.args.told.now) _ _ _ _ _ _ c.in-Some.ensures.unnoted c.put_back.ensures.unnoted t.turn.says t.got t.saw denied in
+    let shut = refused c.args.here.now.image.now c.args.here.now.cpu Site.scheduler c.in-Some.turn.number _ (Cell.scheduler d) (FineAct.Unseen (Unseen.Wake c.args.who false)) (Exchange.told c.args.told.now) _ _ _ _ _ _ c.in-Some.ensures.unnoted c.put_back.ensures.unnoted (omega arith) t.turn.says t.got t.saw denied in
     (c.in-Some.turn.number, d, shut.0, shut.1)
 
 pub put_back-requires-clause-same : goal.put_back-requires-clause-same
