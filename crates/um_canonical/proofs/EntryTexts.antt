@@ -1,10 +1,11 @@
 -- The text of an entry is that of its pieces, one behind the other.
-use Rattle.std.proofs.Common.{◌≡◌, ℕ, List, [], ◌++◌, codes, decimal, false, option_map, refl, sym, ap, ◌∙◌, append_assoc}
+use Rattle.std.proofs.Common.{◌≡◌, ℕ, List, [], ◌++◌, codes, decimal, pos, false, option_map, refl, sym, ap, ◌∙◌, append_assoc}
 use Rattle.std.proofs.lemmas.Grind.{flat_map-append}
 use Rattle.std.proofs.lemmas.List.{append-nil}
 use Rattle.std.specs.List.{flat_map}
 use Rattle.um_base.specs.declared.image.Boot.{Boot}
 use Rattle.um_base.specs.declared.image.DomainDef.{DomainDef}
+use Rattle.um_base.specs.declared.image.Futex.{Futex}
 use Rattle.um_base.specs.declared.image.Image.{Image}
 use Rattle.um_base.specs.declared.image.ObjectDef.{ObjectDef}
 use Rattle.um_base.specs.declared.image.Partition.{Partition}
@@ -112,6 +113,16 @@ pub script_is : (t0 t1 t2 t3 : List ℕ) (t : NameTable) (s : Script)
     → t3 ≡ t0 ++ script_by t s
 unfolding script_text shown_line
 script_is t0 t1 t2 t3 t s head name lines = behind t0 t1 t3 _ _ head (behind t1 t2 t3 _ _ name (last t2 t3 _ lines))
+
+pub futex_is : (t0 t1 t2 t3 t4 : List ℕ) (partitions : Names) (f : Futex)
+    → t1 ≡ t0 ++ header_text Key.Futex
+    → t2 ≡ t1 ++ pair_text (text_pair Key.Name f.name)
+    → t3 ≡ t2 ++ pair_text (text_pair Key.Partition (name_at partitions f.partition))
+    → t4 ≡ t3 ++ pair_text (number_pair Key.Offset (pos f.offset))
+    → t4 ≡ t0 ++ futex_text partitions f
+unfolding futex_text
+futex_is t0 t1 t2 t3 t4 partitions f head name partition offset =
+    behind t0 t1 t4 _ _ head (behind t1 t2 t4 _ _ name (behind t2 t3 t4 _ _ partition (last t3 t4 _ offset)))
 
 pub text_is : (t0 t1 t2 t3 t4 t5 t6 t7 t8 : List ℕ) (t : NameTable) (numbers : List ℕ) (image : Image)
     → t1 ≡ t0 ++ top_text image

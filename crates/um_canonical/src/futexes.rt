@@ -8,7 +8,6 @@ use crate::pairs::{put_header, put_number, put_text};
 use um_base::{Futex, Name, OutOfMemory};
 use um_document::Key;
 
-#[tactic(auto, unfolding(crate::specs::Pieces::futex_text))]
 fn put_futex(text: &mut Vec<u8>, partitions: &[Name], futex: &Futex) -> Result<(), OutOfMemory>
     ensures { OnOk result (text.new.items ≡ text.old.items ++ futex_text partitions.now futex.now) }
 {
