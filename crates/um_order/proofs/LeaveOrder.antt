@@ -75,7 +75,7 @@ use Rattle.um_order.proofs.NextSteps.{left-behind, left-is}
 use Rattle.um_order.proofs.ShowSteps.{goes-offered, goes-some, told-numbers, wakes-so}
 use Rattle.um_order.proofs.Standing.{Begun, ComeAlone, IsFull, back, comers, cutters, goes, inside_of, is_calm, is_show, woken_of}
 
-goes-awake : (steps : Steps) → goes steps ≡ true → waits steps ≡ false
+pub goes-awake : (steps : Steps) → goes steps ≡ true → waits steps ≡ false
 goes-awake [] h = refl
 goes-awake (Pending.Resume ∷ rest) h = absurd (false≢true h)
 goes-awake (q ∷ rest) h = refl

@@ -20,6 +20,8 @@ mod Follow
 mod ShowSteps
 mod ArmOrder
 mod LeaveOrder
+mod RousedLines
+mod StirOrder
 mod VisitOrder
 mod CleanOrder
 mod TakeSteps
