@@ -4,8 +4,6 @@ use Rattle.um_base.specs.declared.image.Image.{Image}
 use Rattle.um_fine.specs.Processor.{Processor}
 use Rattle.um_fine.specs.Asks.{site_by}
 use Rattle.um_fine.specs.Places.{Todos}
-use Rattle.um_fine.specs.Scheduler.{takes_turn}
-use Rattle.um_fine.specs.Context.{Context}
 use Rattle.um_fine.specs.Scheduler.{Scheduler, first_ready, turn_in}
 use Rattle.um_fine.specs.Steps.{Exchange, FineStep, Site}
 use Rattle.um_words.specs.declared.fine.FineAct.{FineAct}
@@ -18,7 +16,7 @@ use Rattle.um_processor.specs.declared.phase.Turn.{Turn}
 use Rattle.um_processor.specs.declared.processor.Processor.{Processor as Kept}
 use Rattle.um_processor.specs.declared.running.Running.{Running}
 use Rattle.um_processor.specs.Phases.{is_idle}
-use Rattle.um_processor.specs.Processors.{Goes, OnMade, TurnedAt, UnlessMade, in_phase, processor_of, site_next}
+use Rattle.um_processor.specs.Processors.{Goes, OnMade, TurnedAt, in_phase, processor_of, site_next}
 use Rattle.um_processor.specs.Standing.{whole}
 use Rattle.um_processor.specs.Idles.{HasIdled, IdlesAt, is_turn}
 use Rattle.um_processor.specs.Turns.{MayTurn, TurnsAt}

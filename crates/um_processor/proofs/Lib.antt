@@ -5,6 +5,7 @@ pub mod Cleaned
 pub mod Counted
 pub mod Errands
 pub mod Expanded
+pub mod Idled
 pub mod Lifted
 pub mod Looked
 pub mod Noted
@@ -17,7 +18,6 @@ pub mod Shown
 pub mod Spared
 pub mod Standings
 pub mod Stopped
-pub mod Idled
 pub mod Timed
 pub mod Visited
 pub mod Wholes
