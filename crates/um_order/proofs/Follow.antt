@@ -41,7 +41,7 @@ FollowsBy at (FineAct.Unseen unseen) to = to ≡ at
 module _ (f : Fine) (at : Point) (e : FineStep) (law : Lawful f at.state e) (one : f.cpus ≡ 1) (orderly : AllCreate at.state) where
   open around f e use {later, processor as p, now}
 
-  only : (k : ℕ) → k < f.cpus → e.cpu ≡ k
+  pub only : (k : ℕ) → k < f.cpus → e.cpu ≡ k
   only k l = let mine = law.by.named in omega (arith, l, mine, one)
 
   clear : is_own f.image p.todo ≡ true → IsClear f
@@ -52,11 +52,15 @@ module _ (f : Fine) (at : Point) (e : FineStep) (law : Lawful f at.state e) (one
         cleans = λ k x l. subst (λ j. counted (is_recycle x) (f.processors j).todo ≡ 0) (only k l) (own-clear f.image x p.context p.todo fits own).1;
       }
 
-  -- no cleaning step is lawful where the processor's own thread is to make an event
+  -- no cleaning step is lawful where no list has the end of a claim, or a cleaning
+  pub cleans-none-by : IsClear f → (last : Option ThreadIx) → CleansNone at.state last
+  cleans-none-by clear None = tt
+  cleans-none-by clear (Some u) =
+      λ act s2 cleaning. none-chosen f at.state law.rel law.sound orderly clear u.0 cleaning.made.row cleaning.made.step cleaning.cleans cleaning.made.chosen
+
+  -- so it is where the processor's own thread is to make an event
   pub cleans-none : is_own f.image p.todo ≡ true → (last : Option ThreadIx) → CleansNone at.state last
-  cleans-none own None = tt
-  cleans-none own (Some u) =
-      λ act s2 cleaning. none-chosen f at.state law.rel law.sound orderly (clear own) u.0 cleaning.made.row cleaning.made.step cleaning.cleans cleaning.made.chosen
+  cleans-none own last = cleans-none-by (clear own) last
 
   pub here : later.processors e.cpu ≡ now
   here = ap (λ b. cond b now p) (eq-eqb e.cpu e.cpu refl)

@@ -22,6 +22,7 @@ mod ArmOrder
 mod LeaveOrder
 mod RousedLines
 mod StirOrder
+mod LookSteps
 mod VisitOrder
 mod CleanOrder
 mod TakeSteps

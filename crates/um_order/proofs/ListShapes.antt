@@ -20,7 +20,7 @@ use Rattle.um_fine.specs.Steps.{FineStep}
 use Rattle.um_refinement.specs.Lists.{counted, is_done, is_end_call, is_recycle, is_sleep, names_row}
 use Rattle.um_refinement.specs.Offers.{Fits, behind_shown}
 use Rattle.um_refinement.proofs.ListDone.{AsBefore, Done, Ends, Read, goes-done, says_done, with-cleaned-done}
-use Rattle.um_refinement.proofs.ListGrowth.{behind-kept, cleaning-kept, ends-always, forms-kept, is_errand, looks-kept, quiet-kept, show-kept, visits_row}
+use Rattle.um_refinement.proofs.ListGrowth.{behind-kept, cleaning-kept, ends-always, forms-kept, is_errand, looks-kept, next-kept, quiet-kept, show-kept, visits_row}
 use Rattle.um_order.proofs.Standing.{is_show}
 
 any-append : (f : Todo → Bool) (q : Todo) → f q ≡ false → (todo : Todos) → list_any f (todo ++ q ∷ []) ≡ list_any f todo
@@ -151,6 +151,15 @@ module _ (image : Image) where
         move = λ d who rest. (refl, refl);
         start = λ who q rest c. (refl, refl);
       })
+
+  clear-put : (x : ℕ) (q : Todo) (todo : Todos) → visits_row q ≡ true → names_row q ≡ true → EndsNone x todo → EndsNone x (q ∷ todo)
+  clear-put x (Todo.pass who y) todo visit few h = h
+  clear-put x (Todo.drop y) todo visit few h = h
+  clear-put x q todo visit few h = absurd (false≢true visit)
+
+  -- nor have the fresh steps of a thread
+  pub next-clear : (x : ℕ) (c : Context) (steps : Steps) → (counted (is_end_call x) (next_steps image c steps) ≡ 0) × (counted (is_recycle x) (next_steps image c steps) ≡ 0)
+  next-clear x c steps = next-kept image (EndsNone x) (clear-put x) (fine-ends x) (λ b. elim b as (λ b. EndsNone x (end_of_turn image b)) [ true ↦ (refl, refl) | false ↦ (refl, refl) ]) c steps
 
   -- a step that may show an event of its own thread, or one of time
   abbrev pub is_own : Todos → Bool

@@ -16,7 +16,7 @@ use Rattle.um_invariants.specs.Ready.{is_still}
 use Rattle.um_fine.specs.Places.{Todo, Todos}
 use Rattle.um_fine.specs.Processor.{Processor}
 use Rattle.um_fine.specs.Scheduler.{Scheduler, waits}
-use Rattle.um_refinement.specs.Lists.{adders, has_steps}
+use Rattle.um_refinement.specs.Lists.{adders, counted, has_steps, is_end_call, is_recycle}
 use Rattle.um_refinement.proofs.ListDone.{says_done}
 use Rattle.um_refinement.proofs.ListWakes.{Wakes, wakers}
 use Rattle.um_order.proofs.ArmingOrder.{Held, Passed, Plain}
@@ -138,6 +138,7 @@ pub record Rouses (p : Processor) (s : Scheduler) (j : Joins) (ms : List Marked)
   pub todo : Todos
   pub list : p.todo ≡ Todo.rouse who ∷ todo
   pub turn : Turns p todo (if sleeps j who then who ∷ [] else []) s ms at
+  pub bare : (wakers todo ≡ []) × (cutters todo ≡ [])
   pub cut : at.cut ≡ None
 
 -- It has aborted another thread, and looks whether it waits.
@@ -148,6 +149,9 @@ pub record Looks (p : Processor) (s : Scheduler) (ms : List Marked) (at : Point)
   pub todo : Todos
   pub list : p.todo ≡ Todo.look who site before ∷ todo
   pub turn : Turns p todo [] s ms at
+  pub bare : (wakers todo ≡ []) × (cutters todo ≡ []) × (adders todo ≡ [])
+  pub goes_then : goes p.context.pending ≡ true
+  pub clear : (x : ℕ) → (counted (is_end_call x) todo ≡ 0) × (counted (is_recycle x) todo ≡ 0)
   pub cut : at.cut ≡ if is_waiting (thread_at at.state who) then Some (to_thread who) else None
 
 -- It has a mark in the hand: no thread is ready but those that stand still.

@@ -39,7 +39,7 @@ use Rattle.um_order.proofs.EventLines.{inside-is, own-is, rest-is}
 use Rattle.um_order.proofs.Follow.{Followed, FollowsBy, cleans-none}
 use Rattle.um_order.proofs.LeaveOrder.{goes-awake}
 use Rattle.um_order.proofs.ListCalm.{calm-expands, cuts-expands}
-use Rattle.um_order.proofs.ListShapes.{is_own}
+use Rattle.um_order.proofs.ListShapes.{is_own, next-clear}
 use Rattle.um_order.proofs.ShowSteps.{goes-some}
 use Rattle.um_order.proofs.Standing.{ComeAlone, Looks, Rouses, Stands, Turns, back, begun, comers, cutters, goes, inside_of, is_calm, is_show, looks, rouses, woken_of}
 
@@ -162,7 +162,7 @@ module _ (f : Fine) (at : Point) (e : FineStep) (law : Lawful f at.state e) (one
           point = to;
           follows = follows;
           state = refl;
-          stands = rouses (record { who = who; todo = left; list = list; turn = turn (if sleeps (joins later) who then who ∷ [] else []) ready; cut = uncut });
+          stands = rouses (record { who = who; todo = left; list = list; turn = turn (if sleeps (joins later) who then who ∷ [] else []) ready; bare = (steps-woken f.image now.context, cuts-expands f.image [] now.context tt refl); cut = uncut });
         }
 
     -- it looks whether who waits
@@ -173,7 +173,8 @@ module _ (f : Fine) (at : Point) (e : FineStep) (law : Lawful f at.state e) (one
           point = to;
           follows = follows;
           state = refl;
-          stands = looks (record { who = who.0; site = site; before = before; todo = left; list = list; turn = turn [] (ready ∙ sym (append-nil (scheduler later).ready)); cut = cut });
+          stands = looks (record { who = who.0; site = site; before = before; todo = left; list = list; turn = turn [] (ready ∙ sym (append-nil (scheduler later).ready));
+            bare = (steps-woken f.image now.context, cuts-expands f.image [] now.context tt refl, filled-adders f.image now.context []); goes_then = is.goes_then; clear = λ x. next-clear f.image x now.context now.context.pending; cut = cut });
         }
 
     -- it has stopped itself
