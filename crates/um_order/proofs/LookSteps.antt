@@ -185,3 +185,160 @@ module _ (f : Fine) (at : Point) (e : FineStep) (law : Lawful f at.state e) wher
         by : (b : Bool) → is_void e.act ≡ b → Begun now (scheduler later) (clock later).marks at
         by true h = void-on h
         by false h = found-on h
+
+  -- It looks whether one waits.
+
+  module _ (was : Looks p s (clock f).marks at) where
+    -- nobody waits there
+    pub look-void : is_void e.act ≡ true → is_waiting (thread_at m was.who) ≡ false → Begun now (scheduler later) (clock later).marks at
+    look-void void idle =
+        turn-list was.todo was.todo [] was.turn (ap (λ (z : Processor). z.context) next) was.turn.runs was.turn.calm refl refl was.turn.alone
+        (ap (λ (z : Scheduler). z.ready) (elsewhere (Todo.look was.who was.site was.before) was.todo was.list refl)) (clock-same f m e law (Todo.look was.who was.site was.before) was.todo was.list refl) refl
+        (ap (λ (z : Processor). z.todo) next ∙ (ap (λ b. filled_up f.image p.context (if b then was.todo else Todo.tell_cut was.who ∷ was.todo)) void ∙ filled-same f.image p.context was.todo was.turn.runs))
+        (was.cut ∙ ap (λ b. if b then Some (to_thread was.who) else None) idle)
+      where
+        is : e.act ≡ FineAct.Unseen Unseen.Void
+        is =
+            made-says f m e law (Todo.look was.who was.site was.before ∷ was.todo) was.list
+            ∙ ap (λ b. if b then FineAct.Unseen Unseen.Void else by_me f.image p (Act.Cut (to_thread was.who))) void
+
+        next : now ≡ goes_on_by f.image p e (Todo.look was.who was.site was.before ∷ was.todo)
+        next =
+            exact-next f.image p e (Todo.look was.who was.site was.before ∷ was.todo) was.list (ap (λ (a : FineAct). begins_cleaning (record e { act = a })) is)
+            ∙ ap (λ (a : FineAct). with_actor f.image (goes_on_by f.image p e (Todo.look was.who was.site was.before ∷ was.todo)) a) is
+
+    -- one that waits is cut: it follows, and gets ready
+    module _ (one : f.cpus ≡ 1) (orderly : AllCreate at.state) (kept : AreKept at.state) (cell : ℕ) (said : e.act ≡ by_me f.image p (Act.Cut (to_thread was.who)))
+        (chosen : MayChoose at.state (f.processors e.cpu).context.thread cell (Pending.Cut (to_thread was.who))) where
+      abbrev t : ℕ
+      t = p.context.thread
+
+      abbrev s2 : State
+      s2 = T.after m t cell (Pending.Cut (to_thread was.who)) (thread_at m t).pending
+
+      waits-there : is_waiting (thread_at m was.who) ≡ true
+      waits-there = (and_parts _ _ (and_parts _ _ chosen).1).0
+
+      to-resume : is_to_resume (thread_at m was.who).pending ≡ true
+      to-resume = (and_parts (is_to_resume (thread_at m was.who).pending) _ waits-there).0
+
+      untold : is_some (thread_at m was.who).told ≡ false
+      untold = not-true (is_some (thread_at m was.who).told) (and_parts (is_to_resume (thread_at m was.who).pending) _ waits-there).1
+
+      few : was.who < THREADS
+      few = waiter-below f m law.rel kept.many was.who waits-there
+
+      machine-waits : waits (thread_at m was.who).pending ≡ true
+      machine-waits = by (thread_at m was.who).pending to-resume
+        where
+          by : (steps : Steps) → is_to_resume steps ≡ true → waits steps ≡ true
+          by (Pending.Resume ∷ rest) h = refl
+          by steps h = absurd (false≢true h)
+
+      -- it isn't ready
+      none-cut : cuts f was.who ≡ 0
+      none-cut = by (cuts f was.who) refl
+        where
+          by : (n : ℕ) → cuts f was.who ≡ n → n ≡ 0
+          by zero h = refl
+          by (suc n) h = absurd (false≢true (sym (ap waits ((law.rel.threads was.who few).cut.left (omega (arith, h)))) ∙ machine-waits))
+
+      parked-waits : (c : Context) → parked_at s was.who ≡ Some c → waits c.pending ≡ true
+      parked-waits c there =
+          let is = law.rel.contexts.parked was.who c there in
+          ap waits (ap (λ (th : Thread). th.pending) (own-is f m c is.0 (ap (cuts f) is.1 ∙ none-cut)) ∙ ap (λ n. (thread_at m n).pending) is.1) ∙ machine-waits
+
+      none-told : is_some (told_at s was.who) ≡ false
+      none-told = by (is_some (told_at s was.who)) refl
+        where
+          by : (b : Bool) → is_some (told_at s was.who) ≡ b → b ≡ false
+          by false h = refl
+          by true h = absurd (true≢false (sym (ap is_some (law.rel.threads was.who few).told.told ∙ told-some f m law.rel was.who f.cpus h) ∙ untold))
+
+      whole : is_cut s was.who ≡ false
+      whole = by (is_cut s was.who) refl
+        where
+          by : (b : Bool) → is_cut s was.who ≡ b → b ≡ false
+          by false h = refl
+          by true h = let one-there = ap one_if h in let none = none-cut in absurd (omega (arith, one-there, none))
+
+      unready : occurs was.who s.ready ≡ 0
+      unready = (law.rel.threads was.who few).ready.ready ∙ ap one_if (unready-there (parked_at s was.who) (told_at s was.who) (is_cut s was.who) parked-waits none-told whole)
+
+      none-back : back p.context ≡ []
+      none-back = ap (λ b. if b && not p.context.ended then p.context.thread ∷ [] else []) (goes-some p.context was.goes_then).0
+
+      line : at.ready ≡ s.ready
+      line = was.turn.ready ∙ ((λ i. s.ready ++ ((woken_of (was.bare.0 i) ++ (was.bare.1 i ++ map (λ (d : Context). d.thread) (was.bare.2 i))) ++ none-back i)) ∙ append-nil s.ready)
+
+      abbrev to : Point
+      to = record at { state = s2; cut = None; ready = with_readied at.ready (Act.Cut (to_thread was.who)) s2 }
+
+      next : now ≡ record (goes_on_by f.image p e (Todo.look was.who was.site was.before ∷ was.todo)) { actor = Some p.context.thread }
+      next =
+          exact-next f.image p e (Todo.look was.who was.site was.before ∷ was.todo) was.list (ap (λ (a : FineAct). begins_cleaning (record e { act = a })) said)
+          ∙ ap (λ (a : FineAct). with_actor f.image (goes_on_by f.image p e (Todo.look was.who was.site was.before ∷ was.todo)) a) said
+
+      list : now.todo ≡ Todo.tell_cut was.who ∷ was.todo
+      list = ap (λ (z : Processor). z.todo) next ∙ ap (λ b. filled_up f.image p.context (if b then was.todo else Todo.tell_cut was.who ∷ was.todo)) (ap is_void said)
+
+      context : now.context ≡ p.context
+      context = ap (λ (z : Processor). z.context) next
+
+      awake : waits now.context.pending ≡ false
+      awake = ap (λ (c : Context). waits c.pending) context ∙ goes-awake p.context.pending was.goes_then
+
+      pub cut-follows : Followed f at e law one orderly (T.after at.state (f.processors e.cpu).context.thread cell (Pending.Cut (to_thread was.who)) (thread_at at.state (f.processors e.cpu).context.thread).pending)
+      cut-follows =
+          record {
+            point = to;
+            follows = subst (λ a. FollowsBy at a to) (sym said)
+                (inr (inl (record {
+                  clean = cleans-none-by f at e law one orderly
+                      (record {
+                        ends = λ k x l. subst (λ j. counted (is_end_call x) (f.processors j).todo ≡ 0) (only f at e law one orderly k l) (ap (counted (is_end_call x)) was.list ∙ (was.clear x).0);
+                        cleans = λ k x l. subst (λ j. counted (is_recycle x) (f.processors j).todo ≡ 0) (only f at e law one orderly k l) (ap (counted (is_recycle x)) was.list ∙ (was.clear x).1);
+                      }) at.last;
+                  by = was.turn.last;
+                  who = to_thread was.who;
+                  cell = cell;
+                  is_due = was.cut ∙ ap (λ b. if b then Some (to_thread was.who) else None) waits-there;
+                  made =
+                      record {
+                        made =
+                            record {
+                              step = Pending.Cut (to_thread was.who);
+                              rest = (thread_at m t).pending;
+                              row = cell;
+                              offered = tends refl (law.rel.contexts.running e.cpu law.by.named (runs-first law.rel law.by.named (Todo.look was.who was.site was.before) was.todo was.list (λ hand. hand))).started;
+                              chosen = chosen;
+                              says = refl;
+                              leaves = refl;
+                            };
+                        is = refl;
+                        at = refl;
+                      };
+                  leaves = refl;
+                })));
+            state = refl;
+            stands = begun
+                (
+                  subst (λ (l : Todos). Turns now l [] (scheduler later) (clock later).marks to) (sym list)
+                      (record {
+                        runs = refl;
+                        calm = was.turn.calm;
+                        last = was.turn.last ∙ ap (λ (c : Context). Some (to_thread c.thread)) (sym context);
+                        ready = ap (λ l. with_readied l (Act.Cut (to_thread was.who)) s2) line
+                            ∙ (joins-new s.ready was.who unready
+                            ∙ λ i. (sym (elsewhere (Todo.look was.who was.site was.before) was.todo was.list refl) i).ready ++ ((woken_of (sym was.bare.0 i) ++ (was.who ∷ (sym was.bare.1 i ++ map (λ (d : Context). d.thread) (sym was.bare.2 i)))) ++ (sym none-back ∙ ap back (sym context)) i));
+                        inside = was.turn.inside ∙ ap inside_of (sym context);
+                        shows = λ rests. was.turn.shows (ap (λ (c : Context). is_empty c.pending) (sym context) ∙ rests);
+                        ends = λ done. ap (λ (c : Context). c.ended) context ∙ was.turn.ends done;
+                        told = λ k. absurd (true≢false (sym k ∙ awake));
+                        whole = λ k. absurd (true≢false (sym k ∙ awake));
+                        alone = (λ some. was.bare.0, λ some. absurd (true≢false (ap is_empty (sym was.bare.2) ∙ some)));
+                        armings = subst (λ (c : Clock). Plain c.marks at.armings) (sym (clock-same f m e law (Todo.look was.who was.site was.before) was.todo was.list refl)) was.turn.armings;
+                      }),
+                  refl,
+                );
+          }
