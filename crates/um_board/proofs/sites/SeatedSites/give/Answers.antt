@@ -1,4 +1,4 @@
-use Rattle.std.proofs.Common.{rules, ℕ, ◌≡◌, ◌≤◌, ◌∙◌, ap, refl, subst, sym, arith, None, Some, Option, ◌×◌}
+use Rattle.std.proofs.Common.{rules, ℕ, ◌≡◌, ◌≤◌, ◌∙◌, ap, refl, subst, sym, arith, None, Some, Option}
 use Rattle.um_base.specs.Weight.{weight}
 use Rattle.um_fine.specs.Cells.{Cell}
 use Rattle.um_fine.specs.Clock.{first_due, give_first}

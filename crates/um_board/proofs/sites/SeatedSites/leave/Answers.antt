@@ -1,4 +1,4 @@
-use Rattle.std.proofs.Common.{rules, ◌≡◌, ◌∙◌, ap}
+use Rattle.std.proofs.Common.{rules, ◌≡◌, ◌∙◌, ap, refl}
 use Rattle.um_fine.specs.Cells.{Cell}
 use Rattle.um_fine.specs.Joins.{Joins}
 use Rattle.um_fine.specs.Joins.{all_joined, is_joined, shut_down}
