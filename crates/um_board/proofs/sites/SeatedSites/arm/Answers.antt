@@ -27,8 +27,8 @@ leave_cell-requires-clause-takes c =
     let e = c.arm-deadline.ensures in
     let deadline : c.arm-deadline.result ≡ d.clock.now + c.args.ticks = e.deadline ∙ ap (λ (t : Timed). t.clock.now + c.args.ticks) was in
     cell-takes c.args.here.now.image.now c.args.here.now.cpu Site.clock c.in-Some.turn.number (Cell.clock d.clock) _ (arm_act c.args.thread) (Exchange.armed c.args.ticks c.args.mark) c.in-Some.ensures.turn.1.turn.room refl
-        (ap (λ (t : Timed). Cell.clock t.clock) (e.left ∙ ap (λ (t : Timed). with_marks t (t.clock.marks ++ record { deadline = c.arm-deadline.result; mark = c.args.mark; settled = false; given = false } ∷ [])) was)
-        ∙ ap (λ (n : ℕ). Cell.clock (record d.clock { marks = d.clock.marks ++ record { deadline = n; mark = c.args.mark; settled = false; given = false } ∷ [] })) deadline)
+    (ap (λ (t : Timed). Cell.clock t.clock) (e.left ∙ ap (λ (t : Timed). with_marks t (t.clock.marks ++ record { deadline = c.arm-deadline.result; mark = c.args.mark; settled = false; given = false } ∷ [])) was)
+    ∙ ap (λ (n : ℕ). Cell.clock (record d.clock { marks = d.clock.marks ++ record { deadline = n; mark = c.args.mark; settled = false; given = false } ∷ [] })) deadline)
 
 pub leave_cell-requires-clause-event : goal.leave_cell-requires-clause-event
 leave_cell-requires-clause-event c =
@@ -77,6 +77,7 @@ returns-then-is_full-clause-said c =
     let d = c.in-Some.turn.before.value.value in
     let was : c.deref.result.now ≡ d = search rules in
     let t = c.in-Some.ensures.turn.1 in
-    let full = subst (λ (t : Timed). (t.most ≤ length t.clock.marks) ⊎ (268435455 ≤ length t.clock.marks)) was (c.is_full.ensures.full c.if-is_full.true) in
-    (unnoted-then _ _ _ _ _ _ c.in-Some.ensures.unnoted c.put_back.ensures.unnoted,
-    Hinders.crowded c.in-Some.turn.word c.args.here.now.image.now d.clock refl t.saw (many-marks (weight c.args.here.now.image.now) (length d.clock.marks) d.most t.marks full))
+    let full = subst (λ (t : Timed). (t.most ≤ length t.clock.marks) ⊎ (268435455 ≤ length t.clock.marks)) was (c.is_full.ensures.full c.if-is_full.true) in (
+      unnoted-then _ _ _ _ _ _ c.in-Some.ensures.unnoted c.put_back.ensures.unnoted,
+      Hinders.crowded c.in-Some.turn.word c.args.here.now.image.now d.clock refl t.saw (many-marks (weight c.args.here.now.image.now) (length d.clock.marks) d.most t.marks full),
+    )

@@ -15,7 +15,7 @@ leave_cell-requires-clause-takes c =
     let d = c.in-Some.turn.before.value in
     let was : c.in-Some.cell ≡ d = search rules in
     cell-takes c.args.here.now.image.now c.args.here.now.cpu (Site.object c.args.row.0) c.in-Some.turn.number (Cell.object (kept_in d)) _ (FineAct.Unseen Unseen.Wipe) Exchange.nothing c.in-Some.ensures.turn.1.turn.room refl
-        (ap (λ (o : ObjectCell). Cell.object (kept_in o)) (c.clear-buffer.ensures.left ∙ ap wiped was))
+    (ap (λ (o : ObjectCell). Cell.object (kept_in o)) (c.clear-buffer.ensures.left ∙ ap wiped was))
 
 pub leave_cell-requires-clause-goes : goal.leave_cell-requires-clause-goes
 leave_cell-requires-clause-goes c = next-then _ _ _ _ _ _ c.in-Some.ensures.unnoted (c.requires.goes c.in-Some.turn.number (kept_in c.in-Some.turn.before.value))

@@ -20,8 +20,8 @@ leave_cell-requires-clause-takes c =
     let act = c.args.act.now in
     let answer = c.wait-answer.ensures.answer ∙ ap (λ (m : Bytes). wait_answer image m (wait_more act) act.addr.0 act.value) was in
     cell-takes image c.args.here.now.cpu Site.memory c.in-Some.turn.number (Cell.memory d) _ (wait_act act) (wait_sent act) c.in-Some.ensures.turn.1.turn.room refl
-        (ap Cell.memory (c.wait-answer.ensures.left ∙ ap (λ (m : Bytes). memory_after image m (Act.FutexWait act.addr act.value c.wait-answer.result) (wait_sent act)) was
-        ∙ ap (λ (a : Answer). memory_after image d (Act.FutexWait act.addr act.value a) (wait_sent act)) answer))
+    (ap Cell.memory (c.wait-answer.ensures.left ∙ ap (λ (m : Bytes). memory_after image m (Act.FutexWait act.addr act.value c.wait-answer.result) (wait_sent act)) was
+    ∙ ap (λ (a : Answer). memory_after image d (Act.FutexWait act.addr act.value a) (wait_sent act)) answer))
 
 pub leave_cell-requires-clause-event : goal.leave_cell-requires-clause-event
 leave_cell-requires-clause-event c =

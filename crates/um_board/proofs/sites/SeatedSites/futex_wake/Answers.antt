@@ -22,7 +22,7 @@ leave_cell-requires-clause-takes c =
     let answer = c.wake-answer.ensures.answer ∙ ap (λ (m : Bytes). wake_says image m (wake_more act) act.addr.0) was in
     let woken = c.wake-answer.ensures.woken ∙ ap (λ (m : Bytes). woken_on image m (wake_more act) act.addr.0) was in
     cell-takes image c.args.here.now.cpu Site.memory c.in-Some.turn.number (Cell.memory d) _ (wake_act act) Exchange.nothing c.in-Some.ensures.turn.1.turn.room refl
-        (ap Cell.memory (c.wake-answer.ensures.left ∙ (λ i. memory_after image (was i) (Act.FutexWake act.addr (answer i) (replies_of (woken i))) Exchange.nothing)))
+    (ap Cell.memory (c.wake-answer.ensures.left ∙ (λ i. memory_after image (was i) (Act.FutexWake act.addr (answer i) (replies_of (woken i))) Exchange.nothing)))
 
 pub leave_cell-requires-clause-event : goal.leave_cell-requires-clause-event
 leave_cell-requires-clause-event c =

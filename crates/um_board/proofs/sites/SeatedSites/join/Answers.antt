@@ -24,7 +24,7 @@ leave_cell-requires-clause-takes c =
     let sent = seeking s (Ask.Join c.args.who) in
     let answer = e.answer ∙ ap (λ (j : Joins). join_answer j s.thread.0 c.args.who.0 c.args.timeout) was in
     cell-takes c.args.here.now.image.now c.args.here.now.cpu Site.joins c.in-Some.turn.number (Cell.joins d) _ (join_act s c.args.who c.args.timeout) sent c.in-Some.ensures.turn.1.turn.room refl
-        (ap Cell.joins (e.left ∙ ap (λ (j : Joins). begins_waiting j sent c.join-answer.result) was ∙ ap (λ (a : Answer). begins_waiting d sent a) answer))
+    (ap Cell.joins (e.left ∙ ap (λ (j : Joins). begins_waiting j sent c.join-answer.result) was ∙ ap (λ (a : Answer). begins_waiting d sent a) answer))
 
 pub leave_cell-requires-clause-event : goal.leave_cell-requires-clause-event
 leave_cell-requires-clause-event c =

@@ -19,7 +19,7 @@ leave_cell-requires-clause-takes c =
     let was : c.deref_mut.result.now ≡ d = search rules in
     let given : c.args.context.now.value ≡ c.of-given.result.value.value = (λ i. (sym c.of-given.ensures i).value) in
     cell-takes c.args.here.now.image.now c.args.here.now.cpu Site.joins c.in-Some.turn.number (Cell.joins d) _ (FineAct.Unseen Unseen.Sleep) (Exchange.thread c.of-given.result.value.value None) c.in-Some.ensures.turn.1.turn.room refl
-        (ap Cell.joins (c.sleep.ensures ∙ (λ i. record (was i) { asleep = slice_set (was i).asleep (given i).thread (Some (given i)) })))
+    (ap Cell.joins (c.sleep.ensures ∙ (λ i. record (was i) { asleep = slice_set (was i).asleep (given i).thread (Some (given i)) })))
 
 pub leave_cell-requires-clause-goes : goal.leave_cell-requires-clause-goes
 leave_cell-requires-clause-goes c =

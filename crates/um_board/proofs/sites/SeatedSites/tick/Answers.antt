@@ -21,7 +21,7 @@ leave_cell-requires-clause-takes c =
     let next : Some c.in-Some-tick.now ≡ later_of d = e.next ∙ ap later_of was in
     let now = ap (λ (o : Option ℕ). unwrap_or o d.clock.now) next in
     cell-takes c.args.here.now.image.now c.args.here.now.cpu Site.clock c.in-Some.turn.number (Cell.clock d.clock) _ (tick_act c.args.thread) Exchange.nothing c.in-Some.ensures.turn.1.turn.room (sym (ap (λ (o : Option ℕ). is_some o) next))
-        (ap (λ (t : Timed). Cell.clock t.clock) (e.left ∙ ap (λ (t : Timed). with_time t c.in-Some-tick.now) was) ∙ ap (λ (n : ℕ). Cell.clock (record d.clock { now = n })) now)
+    (ap (λ (t : Timed). Cell.clock t.clock) (e.left ∙ ap (λ (t : Timed). with_time t c.in-Some-tick.now) was) ∙ ap (λ (n : ℕ). Cell.clock (record d.clock { now = n })) now)
 
 pub leave_cell-requires-clause-event : goal.leave_cell-requires-clause-event
 leave_cell-requires-clause-event c =

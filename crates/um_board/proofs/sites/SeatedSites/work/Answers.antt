@@ -35,8 +35,8 @@ leave_cell-requires-clause-takes c =
     let buffer : z.buffer ≡ buffer_cost who.ask answer d.buffer = c.work.ensures.buffer ∙ ap (λ (o : ObjectCell). buffer_cost who.ask answer o.buffer) was in
     let noted : z.noted ≡ slice_set d.noted who.thread.0 c.args.noted = c.work.ensures.noted ∙ ap (λ (o : ObjectCell). slice_set o.noted who.thread.0 c.args.noted) was in
     cell-takes c.args.here.now.image.now c.args.here.now.cpu (Site.object c.args.row.0) c.in-Some.turn.number (Cell.object (kept_in d)) _ (work_act c.args.addr who) (Exchange.asked who c.args.noted no_outcome) c.in-Some.ensures.turn.1.turn.room refl
-        ((λ i. Cell.object (record { contents = z.contents; waiters = z.waiters; noted = noted i; buffer = buffer i }))
-        ∙ ap (λ (w : Acted). Cell.object (record { contents = w.contents; waiters = w.waiters; noted = slice_set d.noted who.thread.0 c.args.noted; buffer = buffer_cost who.ask w.answer d.buffer })) (sym work))
+    ((λ i. Cell.object (record { contents = z.contents; waiters = z.waiters; noted = noted i; buffer = buffer i }))
+    ∙ ap (λ (w : Acted). Cell.object (record { contents = w.contents; waiters = w.waiters; noted = slice_set d.noted who.thread.0 c.args.noted; buffer = buffer_cost who.ask w.answer d.buffer })) (sym work))
 
 pub leave_cell-requires-clause-event : goal.leave_cell-requires-clause-event
 leave_cell-requires-clause-event c =
