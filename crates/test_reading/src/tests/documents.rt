@@ -66,7 +66,13 @@ fn tells_the_first_fault(rt: HostRuntime) -> Result<(), Fail> {
             "BadName object[0].kind",
         ),
         ("object = [{kind = \"timer\"}]", "MissingKey object[0].name"),
-        ("futex = []", "UnknownKey futex"),
+        ("futex = []", "read"),
+        (
+            "futex = [{name = \"f\", partition = \"p\", offset = 0}]",
+            "read",
+        ),
+        ("futex = 0", "WrongType futex"),
+        ("futexes = []", "UnknownKey futexes"),
     ] {
         let whole = format!(in rt.alloc(); "{}{}", HEAD, text)?;
         let found = answer(rt.alloc(), whole.as_str())?;

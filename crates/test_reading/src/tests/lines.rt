@@ -508,11 +508,6 @@ const REFUSED: &[(&str, LineKind, u32)] = &[
     ("k_timer_status_sync @tm r8", LineKind::Operand, 25),
     ("k_timer_status @tm r0", LineKind::UnknownWord, 1),
     ("k_object_alloc timer r0", LineKind::Operand, 16),
-    ("k_thread_abort 0", LineKind::UnknownWord, 1),
-    ("k_thread_join 0 K_FOREVER", LineKind::UnknownWord, 1),
-    ("k_thread_suspend 0", LineKind::UnknownWord, 1),
-    ("k_thread_resume 0", LineKind::UnknownWord, 1),
-    ("k_futex_wake 0 all", LineKind::UnknownWord, 1),
 ];
 
 /// Whether a line has this canonical line, and that reads back to the same instruction.
