@@ -68,7 +68,7 @@ pub own-is : (g : Fine) (s : State) (c : Context) → IsOf g s c → cuts g c.th
 own-is g s c of uncut = ap (λ n. as_thread (as_cut n c)) (sym uncut) ∙ of.own
 
 -- the number of a woken thread is a thread index
-below-woken : (u : ℕ) (ws : Wakes) → AreThreads ws → 0 < told_times u ws → u < THREADS
+pub below-woken : (u : ℕ) (ws : Wakes) → AreThreads ws → 0 < told_times u ws → u < THREADS
 below-woken u [] h some = absurd (omega (arith, some))
 below-woken u (w ∷ ws) h some = by (w.0 == u) refl some (below-woken u ws (and_parts _ _ h).1)
   where

@@ -28,6 +28,7 @@ mod CleanOrder
 mod TakeSteps
 mod TakeOrder
 mod TickOrder
+mod HandOrder
 mod Reserves
 mod FullKept
 mod OneStep

@@ -58,7 +58,7 @@ use Rattle.um_order.proofs.ReadyLines.{joins-new}
 use Rattle.um_order.proofs.ShowSteps.{goes-some}
 use Rattle.um_order.proofs.Standing.{Begun, ComeAlone, Looks, Rouses, Stands, Turns, back, begun, comers, cutters, goes, inside_of, is_calm, is_show, woken_of}
 
-filled-same : (image : Image) (c : Context) (todo : Todos) → has_steps todo ≡ true → filled_up image c todo ≡ todo
+pub filled-same : (image : Image) (c : Context) (todo : Todos) → has_steps todo ≡ true → filled_up image c todo ≡ todo
 filled-same image c [] h = absurd (false≢true h)
 filled-same image c (q ∷ todo) h = refl
 

@@ -112,7 +112,7 @@ as-waits : (n : ℕ) (c : Context) → waits (as_cut n c).pending ≡ true → w
 as-waits zero c h = h
 as-waits (suc n) c h = absurd (false≢true h)
 
-own-waits : {f : Fine} {m : State} {c : Context} → IsOf f m c → waits (thread_at m c.thread).pending ≡ true → waits c.pending ≡ true
+pub own-waits : {f : Fine} {m : State} {c : Context} → IsOf f m c → waits (thread_at m c.thread).pending ≡ true → waits c.pending ≡ true
 own-waits {f} {m} {c} of waiting = as-waits (R.cutters f c.thread) c (ap (λ (th : Thread). waits th.pending) of.own ∙ waiting)
 
 -- a call that is over has no step left
@@ -176,7 +176,7 @@ module _ (f : Fine) (at : Point) (e : FineStep) (law : Lawful f at.state e) (one
   part who k = one_if (runs_on who (f.processors k)) + of_thread who (adders (f.processors k).todo)
 
   -- one that has a step left, and lies neither with the processor nor asleep
-  lies-parked : (who : ℕ) → who < THREADS → (is_empty (thread_at at.state who).pending ≡ false) → runs_on who p ≡ false → of_thread who (adders p.todo) ≡ 0 → is_some (asleep_at (joins f) who) ≡ false
+  pub lies-parked : (who : ℕ) → who < THREADS → (is_empty (thread_at at.state who).pending ≡ false) → runs_on who p ≡ false → of_thread who (adders p.todo) ≡ 0 → is_some (asleep_at (joins f) who) ≡ false
       → is_some (parked_at s who) ≡ true
   lies-parked who few left not-mine not-new awake = by (is_some (parked_at s who)) refl
     where
@@ -197,7 +197,7 @@ module _ (f : Fine) (at : Point) (e : FineStep) (law : Lawful f at.state e) (one
           absurd (true≢false (ap is_empty (sym none.1) ∙ left))
 
   -- of whom an own part at rest would be, lies elsewhere
-  not-added : (who : ℕ) → ((c : Context) → c.thread ≡ who → IsOf f at.state c → c.pending ≡ [] → ⊥) → of_thread who (adders p.todo) ≡ 0
+  pub not-added : (who : ℕ) → ((c : Context) → c.thread ≡ who → IsOf f at.state c → c.pending ≡ [] → ⊥) → of_thread who (adders p.todo) ≡ 0
   not-added who none = which (of_thread who (adders p.todo)) refl
     where
       which : (n : ℕ) → of_thread who (adders p.todo) ≡ n → n ≡ 0
@@ -207,7 +207,7 @@ module _ (f : Fine) (at : Point) (e : FineStep) (law : Lawful f at.state e) (one
           let added = law.rel.contexts.added e.cpu d.0 law.by.named d.1 in
           absurd (none d.0 d.2 added.0 added.2)
 
-  not-asleep : (who : ℕ) → ((c : Context) → c.thread ≡ who → IsOf f at.state c → c.pending ≡ [] → ⊥) → is_some (asleep_at (joins f) who) ≡ false
+  pub not-asleep : (who : ℕ) → ((c : Context) → c.thread ≡ who → IsOf f at.state c → c.pending ≡ [] → ⊥) → is_some (asleep_at (joins f) who) ≡ false
   not-asleep who none = which (asleep_at (joins f) who) refl
     where
       which : (o : Option Context) → asleep_at (joins f) who ≡ o → is_some o ≡ false

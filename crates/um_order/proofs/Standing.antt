@@ -17,6 +17,7 @@ use Rattle.um_fine.specs.Places.{Todo, Todos}
 use Rattle.um_fine.specs.Processor.{Processor}
 use Rattle.um_fine.specs.Scheduler.{Scheduler, waits}
 use Rattle.um_refinement.specs.Lists.{adders, counted, has_steps, is_end_call, is_recycle}
+use Rattle.um_refinement.specs.Timing.{IsPaying}
 use Rattle.um_refinement.proofs.ListDone.{says_done}
 use Rattle.um_refinement.proofs.ListWakes.{Wakes, wakers}
 use Rattle.um_order.proofs.ArmingOrder.{Held, Passed, Plain}
@@ -167,9 +168,7 @@ pub record Holds (p : Processor) (s : Scheduler) (ms : List Marked) (at : Point)
 
 -- It has made the step of that mark, or has found that it makes none, and tells those whom it wakes.
 pub record Pays (p : Processor) (s : Scheduler) (ms : List Marked) (at : Point) : Type 0 where
-  pub woken : List ℕ
-  pub list : list_any is_show p.todo ≡ false
-  pub paid : has_steps p.todo ≡ true
+  pub list : IsPaying p.todo
   pub skipped : List ℕ
   pub still : AllStill at.state skipped
   pub ready : at.ready ≡ skipped ++ (s.ready ++ woken_of (wakers p.todo))

@@ -41,7 +41,7 @@ use Rattle.um_order.proofs.ReadyLines.{next-skips}
 use Rattle.um_order.proofs.Standing.{AllStill, Idles, Stands, idles}
 
 -- where all stand still, none of them is next
-none-next : (s : State) (ts : List ℕ) → AllStill s ts → next_ready s ts ≡ None
+pub none-next : (s : State) (ts : List ℕ) → AllStill s ts → next_ready s ts ≡ None
 none-next s ts still = ap (next_ready s) (sym (append-nil ts)) ∙ next-skips s ts [] still
 
 turn-untimed : (image : Image) (p : Processor) (moved : Exchange) → is_tick (says_turn image p moved) ≡ false
