@@ -13,19 +13,24 @@ use Rattle.um_words.specs.declared.fine.FineAct.{FineAct}
 use Rattle.um_words.specs.declared.fine.Unseen.{Unseen}
 use Rattle.um_words.specs.declared.row_word.RowWord.{RowWord}
 use Rattle.um_words.specs.declared.thread_word.ThreadWord.{ThreadWord}
+use Rattle.um_words.specs.declared.fine.Mark.{Mark}
 use Rattle.um_words.specs.Rows.{has, is_last, left_of}
+use Rattle.um_words.specs.Threads.{thread_after}
 use Rattle.um_fine.specs.Addresses.{address_of}
-use Rattle.um_fine.specs.Answers.{act_in, before_in, is_visit, is_word_read, leftover_in, row_in, thread_in}
-use Rattle.um_fine.specs.Asks.{CpuMay, begins, by_me, fits_step, has_room, is_dropped, made_by, me, moves, next_site, says, says_idle, says_show, shows, site_at}
+use Rattle.um_fine.specs.Answers.{act_in, before_in, is_due_act, is_killed, is_shut_act, is_tick, is_visit, is_void, is_word_read, leftover_in, now_in, row_in, thread_in, woken_in}
+use Rattle.um_fine.specs.Asks.{CpuMay, begins, by_actor, by_me, fits_step, has_room, is_dropped, made_by, marks_end, me, moves, next_site, or_void, roused_by, says, says_idle, says_show, says_turn, shows, site_by, stops_rightly}
 use Rattle.um_fine.specs.Cells.{Cell}
+use Rattle.um_fine.specs.Clock.{Clock, first_due, mark_given}
+use Rattle.um_fine.specs.Joins.{Joins, asleep_at, left_or_shut, roused, sleeps}
 use Rattle.um_fine.specs.Places.{Todo, Todos}
 use Rattle.um_fine.specs.Processor.{Processor, edit_of}
 use Rattle.um_fine.specs.Scheduler.{Scheduler, first_ready, sched_moves}
+use Rattle.um_fine.specs.Seeking.{looked_for}
 use Rattle.um_fine.specs.Sites.{SiteMay, SiteState, filled, is_sort, site_after, site_answers, site_moves, site_takes, word_of}
 use Rattle.um_fine.specs.Steps.{Exchange, FineStep, Site, Word}
-use Rattle.um_fine.specs.Threads.{unless_doomed}
+use Rattle.um_fine.specs.Threads.{unless_stopped}
 use Rattle.um_tables.specs.Sited.{IsSeen}
-use Rattle.um_core.specs.Moments.{AreSorted, MayStep}
+use Rattle.um_core.specs.Moments.{AreAlike, AreSorted, MayStep}
 use Rattle.um_core.proofs.Filling.{filled-alike, gave, said}
 
 module _ (image : Image) (p : Processor) where

@@ -55,27 +55,27 @@ module _ (image : Image) (cpu : ℕ) (r : Running) (w : ThreadWord) where
       → Goes cpu image (in_phase Phase.Begin r) (made (Act.Begin own.place.script (own.place.line + 1)) d a s) (after_begin d a s)
   begins-by true a s hd ha hs line =
       record {
-        asks = record { maker = refl; makes = refl; fit = λ i. (hd i || (w.suspended && not w.aborted)) && line i };
+        asks = record { maker = refl; makes = refl; fit = λ i. ((hd i || (w.suspended && not w.aborted)) && line i) && true };
         next = ap (λ (b : Bool). record (in_phase Phase.Begin r) { todo = put_away b }) (sym hd);
       }
-  begins-by false true s hd ha hs line = record { asks = record { maker = refl; makes = refl; fit = λ i. not (hd i) && line i }; next = refl }
+  begins-by false true s hd ha hs line = record { asks = record { maker = refl; makes = refl; fit = λ i. (not (hd i) && line i) && ha i }; next = refl }
   begins-by false false true hd ha hs line =
       record {
-        asks = record { maker = refl; makes = refl; fit = λ i. (hd i || (hs i && not (ha i))) && line i };
+        asks = record { maker = refl; makes = refl; fit = λ i. ((hd i || (hs i && not (ha i))) && line i) && true };
         next = ap (λ (b : Bool). record (in_phase Phase.Begin r) { todo = put_away b }) (sym hd);
       }
-  begins-by false false false hd ha hs line = record { asks = record { maker = refl; makes = refl; fit = line }; next = refl }
+  begins-by false false false hd ha hs line = record { asks = record { maker = refl; makes = refl; fit = λ i. line i && true }; next = refl }
 
   ends-by : (d a s : Bool) → w.doomed ≡ d → w.aborted ≡ a → w.suspended ≡ s → Goes cpu image (in_phase Phase.Exit r) (made Act.Exit d a s) (after_exit d a s)
   ends-by true a s hd ha hs =
       record {
-        asks = record { maker = refl; makes = refl; fit = λ i. (hd i || (w.suspended && not w.aborted)) && true };
+        asks = record { maker = refl; makes = refl; fit = λ i. ((hd i || (w.suspended && not w.aborted)) && true) && true };
         next = ap (λ (b : Bool). record (in_phase Phase.Exit r) { todo = put_away b }) (sym hd);
       }
-  ends-by false true s hd ha hs = record { asks = record { maker = refl; makes = refl; fit = λ i. not (hd i) && true }; next = refl }
+  ends-by false true s hd ha hs = record { asks = record { maker = refl; makes = refl; fit = λ i. (not (hd i) && true) && ha i }; next = refl }
   ends-by false false true hd ha hs =
       record {
-        asks = record { maker = refl; makes = refl; fit = λ i. (hd i || (hs i && not (ha i))) && true };
+        asks = record { maker = refl; makes = refl; fit = λ i. ((hd i || (hs i && not (ha i))) && true) && true };
         next = ap (λ (b : Bool). record (in_phase Phase.Exit r) { todo = put_away b }) (sym hd);
       }
   ends-by false false false hd ha hs = record { asks = record { maker = refl; makes = refl; fit = refl }; next = refl }

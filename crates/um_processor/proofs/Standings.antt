@@ -31,7 +31,8 @@ use Rattle.um_tables.specs.declared.heap_act.HeapAct.{HeapAct}
 use Rattle.um_processor.specs.declared.phase.Phase.{Phase}
 use Rattle.um_words.specs.declared.row_act.RowAct.{RowAct}
 use Rattle.um_processor.specs.declared.running.Running.{Running}
-use Rattle.um_tables.specs.Asked.{asked, AsksFor, shown}
+use Rattle.um_tables.specs.Asked.{asked, shown}
+use Rattle.um_processor.specs.Wants.{Wants}
 use Rattle.um_processor.specs.Cleanings.{all_clean, block_if}
 use Rattle.um_tables.specs.HeapActs.{heap_made}
 use Rattle.um_tables.specs.ObjectCells.{cleared_made}
@@ -173,11 +174,11 @@ module _ (image : Image) (cpu : ℕ) (p : Processor) (todo : Todos) (f : Front t
     swept who x w = row_made image cpu x w (RowAct.Sweep (to_thread p.context.thread) (to_thread who) (address_of image x))
 
     pub sweep-asks : (who x : ℕ) (w : RowWord)
-        → AsksFor cpu image (record p { todo = Todo.clean_pair who x ∷ (cs ++ todo) }) (swept who x w)
+        → Wants cpu image (record p { todo = Todo.clean_pair who x ∷ (cs ++ todo) }) (swept who x w)
     sweep-asks who x w = by (has w who) refl
       where
         by : (b : Bool) → has w who ≡ b
-            → AsksFor cpu image (record p { todo = Todo.clean_pair who x ∷ (cs ++ todo) })
+            → Wants cpu image (record p { todo = Todo.clean_pair who x ∷ (cs ++ todo) })
             (filled image (SiteState.row w) (asked cpu (Site.row x)
             (if b then shown (to_thread p.context.thread) (Act.DropPair (to_thread who) (address_of image x) Leftover.NoPair) More.Nothing else FineAct.Unseen Unseen.Visit)
             Exchange.nothing))

@@ -25,7 +25,8 @@ use Rattle.um_fine.specs.Steps.{Exchange, FineStep, Site}
 use Rattle.um_processor.specs.declared.phase.Phase.{Phase}
 use Rattle.um_words.specs.declared.row_act.RowAct.{RowAct}
 use Rattle.um_processor.specs.declared.running.Running.{Running}
-use Rattle.um_tables.specs.Asked.{asked, AsksFor, shown}
+use Rattle.um_tables.specs.Asked.{asked, shown}
+use Rattle.um_processor.specs.Wants.{Wants}
 use Rattle.um_processor.specs.Phases.{passed_to}
 use Rattle.um_processor.specs.Processors.{Goes, cleaned, in_phase, processor_of, ready_of, todo_behind, todo_in, visiting, with_todo}
 use Rattle.um_tables.specs.RowActs.{row_made}
@@ -103,11 +104,11 @@ module _ (image : Image) (cpu : ℕ) (r : Running) (w : RowWord) where
       (λ i. (sym et i, sym ew i, sym ea i, sym next i))
       visited
 
-  drop-may : AsksFor cpu image (in_phase Phase.Drop r) (row_made image cpu r.row w (RowAct.Sweep (to_thread me) (to_thread me) (address_of image r.row)))
+  drop-may : Wants cpu image (in_phase Phase.Drop r) (row_made image cpu r.row w (RowAct.Sweep (to_thread me) (to_thread me) (address_of image r.row)))
   drop-may = by (has w me) refl
     where
       by : (b : Bool) → has w me ≡ b
-          → AsksFor cpu image (in_phase Phase.Drop r)
+          → Wants cpu image (in_phase Phase.Drop r)
           (made (if b then shown (to_thread me) (Act.DropPair (to_thread me) (address_of image r.row) Leftover.NoPair) More.Nothing else FineAct.Unseen Unseen.Visit))
       by true h = record { maker = refl; makes = refl; fit = there-dropped (has w me) (is_last w me) h }
       by false h = record { maker = refl; makes = refl; fit = ap (λ (v : Bool). not v) h }
@@ -135,7 +136,7 @@ module _ (image : Image) (cpu : ℕ) (r : Running) (w : RowWord) where
       let e = row_made image cpu r.row w (RowAct.Sweep (to_thread t) (to_thread t) (to_addr a)) in
       record {
         asks =
-            subst (λ (q : ℕ × ℕ). AsksFor cpu image (in_phase Phase.Drop r) (row_made image cpu r.row w (RowAct.Sweep (to_thread q.0) (to_thread q.0) (to_addr q.1))))
+            subst (λ (q : ℕ × ℕ). Wants cpu image (in_phase Phase.Drop r) (row_made image cpu r.row w (RowAct.Sweep (to_thread q.0) (to_thread q.0) (to_addr q.1))))
             (λ i. (sym et i, sym ea i))
             drop-may;
         next =

@@ -28,7 +28,7 @@ use Rattle.um_tables.specs.HeapActs.{heap_made}
 use Rattle.um_tables.specs.ObjectCells.{cleared_made}
 use Rattle.um_processor.specs.Phases.{is_idle}
 use Rattle.um_processor.specs.Processors.{Goes, errands_of, in_phase, processor_of, site_next}
-use Rattle.um_tables.specs.Asked.{AsksFor}
+use Rattle.um_processor.specs.Wants.{Wants}
 use Rattle.um_processor.specs.Requests.{Leads}
 use Rattle.um_tables.specs.RowActs.{row_made}
 use Rattle.um_tables.specs.SchedulerActs.{woken_made}
@@ -131,11 +131,11 @@ module _ (image : Image) (cpu : ℕ) (r : Running) (runs : is_idle r.phase ≡ f
 
   pub pair-asks : (cleans cs : Todos) (ends : List ℕ) (woken : List (ThreadIx × Told)) (who x t a : ℕ) (w : RowWord)
       → cleans ≡ Todo.clean_pair who x ∷ cs → t ≡ (processor_of r).context.thread → a ≡ addr_of image x
-      → AsksFor cpu image (standing cleans ends woken (processor_of r)) (row_made image cpu x w (RowAct.Sweep (to_thread t) (to_thread who) (to_addr a)))
+      → Wants cpu image (standing cleans ends woken (processor_of r)) (row_made image cpu x w (RowAct.Sweep (to_thread t) (to_thread who) (to_addr a)))
   pair-asks cleans cs ends woken who x t a w ec et ea =
       let made : ℕ → ℕ → FineStep = λ i j. row_made image cpu x w (RowAct.Sweep (to_thread i) (to_thread who) (to_addr j)) in
       let thread : (processor_of r).context.thread ≡ t = sym et in
-      subst (λ (q : Processor × FineStep). AsksFor cpu image q.0 q.1)
+      subst (λ (q : Processor × FineStep). Wants cpu image q.0 q.1)
       (λ i. (sym (stood cleans (Todo.clean_pair who x ∷ cs) ends woken ec) i, made (thread i) (sym ea i)))
       (sweep-asks image cpu (processor_of r) (behind ends woken) (front-before ends woken (errands_of r.phase r) front) cs who x w)
 

@@ -12,7 +12,7 @@ use Rattle.um_fine.specs.Places.{Todo, Todos, armed_for, cleaning, cleanings, ne
 use Rattle.um_fine.specs.Processor.{Processor}
 use Rattle.um_fine.specs.Sites.{is_site}
 use Rattle.um_fine.specs.Steps.{FineStep, Site}
-use Rattle.um_tables.specs.Asked.{AsksFor}
+use Rattle.um_processor.specs.Wants.{Wants}
 use Rattle.um_tables.specs.Parked.{some_if}
 use Rattle.um_processor.specs.Phases.{cell_of, domain_named, first_of, lacks_thread, own_phase, passed_to, queue_of, released, settled_mark, settles_at, showing}
 use Rattle.um_tables.specs.Looks.{is_waited_at}
@@ -216,7 +216,7 @@ cleaned image x true p = record p { todo = with_cleaning (cleaning image x) p.to
 
 -- a step that the processor of this number asks for, and the processor after it
 pub record Goes (cpu : ℕ) (image : Image) (p : Processor) (e : FineStep) (z : Processor) : Type 0 where
-  pub asks : AsksFor cpu image p e
+  pub asks : Wants cpu image p e
   pub next : z ≡ p_next image p e
 
 -- the site of its next step: one that has no thread takes a ready one
@@ -274,20 +274,20 @@ pub data IsStuck (image : Image) (p : Processor) : Type 0 where
 
 -- every step that the processor of this number asks for, it may make
 abbrev pub MayNext : ℕ → Image → Processor → (FineStep → Type 0) → Type 0
-MayNext cpu image p may = (e : FineStep) → AsksFor cpu image p e → may e
+MayNext cpu image p may = (e : FineStep) → Wants cpu image p e → may e
 
 -- What comes of a turn of the processor of this number, given what the sites say in each case: a step was made; it was refused; none was
 -- made since others are at its site; there was none to ask for. This is of a turn at the given site.
 abbrev pub TurnedAt : Site → Turn → ℕ → Image → Processor → Processor → (FineStep → Type 0) → (FineStep → Type 0) → (Site → Type 0) → Type 0 → Type 0
 TurnedAt site Turn.Made cpu image p z took shut late none = (e : FineStep) × took e × Goes cpu image p e z
-TurnedAt site Turn.Busy cpu image p z took shut late none = (e : FineStep) × shut e × AsksFor cpu image p e
+TurnedAt site Turn.Busy cpu image p z took shut late none = (e : FineStep) × shut e × Wants cpu image p e
 TurnedAt site Turn.Changed cpu image p z took shut late none = late site
 TurnedAt site Turn.Stuck cpu image p z took shut late none = none × IsStuck image p
 
 -- the same at the site of the step that it asks for next
 abbrev pub Turned : Turn → ℕ → Image → Processor → Processor → (FineStep → Type 0) → (FineStep → Type 0) → (Site → Type 0) → Type 0 → Type 0
 Turned Turn.Made cpu image p z took shut late none = (e : FineStep) × took e × Goes cpu image p e z
-Turned Turn.Busy cpu image p z took shut late none = (e : FineStep) × shut e × AsksFor cpu image p e
+Turned Turn.Busy cpu image p z took shut late none = (e : FineStep) × shut e × Wants cpu image p e
 Turned Turn.Changed cpu image p z took shut late none = late (site_next image p)
 Turned Turn.Stuck cpu image p z took shut late none = none × IsStuck image p
 
