@@ -22,6 +22,8 @@ mod ArmOrder
 mod LeaveOrder
 mod RousedLines
 mod StirOrder
+mod StopOrder
+mod AbortOrder
 mod LookSteps
 mod VisitOrder
 mod CleanOrder

@@ -115,10 +115,10 @@ module _ (f : Fine) (at : Point) (e : FineStep) (law : Lawful f at.state e) (one
     awake = goes-awake now.context.pending is.goes_then
 
     -- its thread isn't at rest
-    not-rests : is_at_rest s2 u ≡ false
+    pub not-rests : is_at_rest s2 u ≡ false
     not-rests = ap (is_at_rest s2) (sym is.thread) ∙ (rest-is later s2 now.context is.of is.whole ∙ ap (λ b. b && not now.context.ended) some-left)
 
-    line : (r : List ℕ) → roused s2 act ≡ r → (front : List ℕ) → all_join (scheduler later).ready r ≡ (scheduler later).ready ++ front → ready_after (waiting at) u act s2 ≡ (scheduler later).ready ++ front
+    pub line : (r : List ℕ) → roused s2 act ≡ r → (front : List ℕ) → all_join (scheduler later).ready r ≡ (scheduler later).ready ++ front → ready_after (waiting at) u act s2 ≡ (scheduler later).ready ++ front
     line r rouse front joined =
         (λ i. let others = all_join (all_join (is.base i) (is.readies i)) (rouse i) in if not-rests i then joins_line others u else others) ∙ joined
 
