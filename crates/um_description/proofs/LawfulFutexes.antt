@@ -1,18 +1,15 @@
 -- Futexes: each lies in its partition, and no two have one address.
-use Rattle.std.proofs.Common.{◌≡◌, inl, inr, ◌⊎◌, ℕ, zero, suc, ◌+◌, ◌-◌, ◌^◌, ◌<◌, ◌≤◌, min, Bool, true, false, not, ◌&&◌, ◌==◌, nat_lt, nat_le, List, [], ◌∷◌, ◌++◌, length, map, slice_get, slice_index, IsTrue, if◌then◌else◌, Option, Some, None, option_map, is_some, bytes_eq, ℤ, pos, negsuc, int_lt, refl, sym, ap, ◌∙◌, add-one, arith}
-use Rattle.std.specs.Prelude.{unwrap_or}
+use Rattle.std.proofs.Common.{◌≡◌, inl, inr, ℕ, ◌+◌, ◌-◌, ◌^◌, ◌<◌, ◌≤◌, min, Bool, true, false, not, ◌==◌, nat_lt, List, [], ◌∷◌, length, map, slice_get, slice_index, IsTrue, if◌then◌else◌, Option, Some, None, option_map, is_some, bytes_eq, ℤ, pos, negsuc, refl, sym, ap, ◌∙◌, add-one, arith}
 use Rattle.std.specs.List.{list_any, list_all}
-use Rattle.std.specs.Fmt.{signed_decimal}
 use Rattle.std.proofs.Math.Nat.{min-eq_left}
 use Rattle.std.proofs.lemmas.Bool.{false≢true, true≢false, ne_eqb, or_parts, cases_lt}
 use Rattle.std.proofs.lemmas.Bool.Decides.{nat_tests}
 use Rattle.um_base.specs.declared.image.Futex.{Futex}
-use Rattle.um_base.specs.declared.image.Image.{Image}
 use Rattle.um_base.specs.declared.image.Partition.{Partition}
 use Rattle.um_base.specs.declared.limits.TheConstants.{PARTITIONS, PARTITION_AREA, FUTEXES}
 use Rattle.um_base.specs.declared.names.Mpu.{Mpu}
 use Rattle.um_base.specs.Layout.{rounded, starts}
-use Rattle.um_base.specs.Lawful.{are_distinct, are_distinct_names, futex_addr, futex_lies, is_lawful_futex}
+use Rattle.um_base.specs.Lawful.{are_distinct, are_distinct_names, futex_addr, is_lawful_futex}
 use Rattle.um_document.specs.declared.description.Description.{Description}
 use Rattle.um_document.specs.declared.description.FutexEntry.{FutexEntry}
 use Rattle.um_document.specs.declared.description.PartitionEntry.{PartitionEntry}
@@ -27,10 +24,10 @@ use Rattle.um_description.specs.Names.{Text, each, is_among, named, partition_na
 use Rattle.um_description.specs.Numbers.{clamped}
 use Rattle.um_description.specs.Packing.{asked_size, first_bytes}
 use Rattle.um_description.specs.Resolve.{ranges_at, range_at, placed_partitions, number_named, futex_of, partition_sizes, asked_partitions, image_of}
-use Rattle.um_description.specs.Unknown.{unless, unknown_in_futex}
+use Rattle.um_description.specs.Unknown.{unknown_in_futex}
 use Rattle.um_description.proofs.LawfulDistinct.{is_known, not_false, partition_name, number_below, same_number}
 use Rattle.um_description.proofs.LawfulLayout.{sizes_asked, length_starting}
-use Rattle.um_description.proofs.LawfulLists.{no_front, no_back, and_true, both_true, not_true, none_if, none_unless, length_mapped, text_itself}
+use Rattle.um_description.proofs.LawfulLists.{no_front, no_back, and_true, both_true, not_true, none_unless, length_mapped, text_itself}
 use Rattle.um_description.proofs.LawfulRanges.{rounded_size, natural_in}
 use Rattle.um_description.proofs.PlacesApart.{Ends, places_apart}
 use Rattle.um_description.proofs.WithoutLimits.{contents_right}

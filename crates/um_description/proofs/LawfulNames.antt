@@ -17,7 +17,7 @@ use Rattle.um_document.specs.declared.shape.Section.{Section}
 use Rattle.um_description.specs.Duplicates.{added, duplicates, pool_places, partition_places, domain_places, object_places, boot_places, script_places, futex_places, before_partitions, before_domains, before_objects, before_scripts, before_futexes, spot_text}
 use Rattle.um_document.specs.LawfulNames.{AreLawfulNames}
 use Rattle.um_description.specs.Limits.{threads_after}
-use Rattle.um_description.specs.Names.{Text, names_within, pool_names, partition_names, domain_names, object_names, script_names, futex_names}
+use Rattle.um_description.specs.Names.{Text, pool_names, partition_names, domain_names, object_names, script_names, futex_names}
 use Rattle.um_description.specs.Resolve.{pool_of, domain_of, placed_partitions, first_range, ranges_taken, objects_from, script_of, futex_of, without_scripts, image_in}
 use Rattle.um_description.proofs.LawfulDistinct.{are_new, new_names, new_partitions, new_domains, new_futexes, new_without_variables, new_beside_fewer, included_within, added_included, IsIncluded, new_append, added_append, distinct_names}
 use Rattle.um_description.proofs.LawfulLists.{no_front, no_back, both_true, map_map}

@@ -10,7 +10,7 @@ use Rattle.um_document.specs.declared.description.VariableEntry.{VariableEntry}
 use Rattle.um_document.specs.declared.place.Place.{Place}
 use Rattle.um_document.specs.declared.shape.Key.{Key}
 use Rattle.um_document.specs.declared.shape.Section.{Section}
-use Rattle.um_description.specs.Names.{Text, is_among, items, variables_of, variable_names, names_within, pool_names, domain_names, object_names, script_names, futex_names}
+use Rattle.um_description.specs.Names.{Text, is_among, items, variables_of, variable_names, names_within, pool_names, domain_names, object_names, script_names}
 
 -- names that stand among these when the names of a list were added to them
 abbrev pub added : List Text → List Text → List Text

@@ -1,4 +1,4 @@
-use Rattle.std.proofs.Common.{Bool, is_some, sym, ap, ◌∙◌}
+use Rattle.std.proofs.Common.{Bool, sym, ap, ◌∙◌}
 use Rattle.um_document.specs.declared.place.Place.{Place}
 use Rattle.um_document.specs.declared.shape.Key.{Key}
 use Rattle.um_document.specs.declared.shape.Section.{Section}
