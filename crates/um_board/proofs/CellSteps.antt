@@ -48,8 +48,8 @@ takes-cell image n m c d e t = ap (cell_in c) t.leaves
 word-ready : (s : Scheduler) (ready : List ℕ) (n : ℕ) → IsTrue (has_ready s ready) → (nat_lt 0 (length ready) && nat_lt s.running 255) ≡ true
 word-ready s [] n h = absurd (false≢true h)
 word-ready s (t ∷ ready) n h =
-    let p = and_parts _ _ h in
     let some : nat_lt 0 (length (t ∷ ready)) ≡ true = lt-ltb 0 (length (t ∷ ready)) (omega arith) in
+    let p = and_parts _ _ h in
     (λ i. some i && p.1 i)
 
 word-takes : (s : Scheduler) (n : ℕ) (act : FineAct) → IsTrue (sched_takes s act) → IsTrue (scheduler_takes (quiet_word (length s.ready) s.running s.owed n) act)

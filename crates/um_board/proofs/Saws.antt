@@ -1,10 +1,9 @@
 -- What a seat saw where no step was made, and what its processor may do next when it has looked.
-use Rattle.std.proofs.Common.{◌≡◌, ◌≢◌, ◌≤◌, ℕ, ◌&&◌, Bool, true, false, List, [], ◌∷◌, ◌++◌, inl, inr, refl, sym, ap, ◌∙◌, subst, arith, append_assoc}
+use Rattle.std.proofs.Common.{◌≡◌, ◌≢◌, ◌≤◌, ℕ, ◌&&◌, Bool, true, false, List, [], ◌∷◌, ◌++◌, inl, inr, refl, sym, ap, ◌∙◌, subst, append_assoc}
 use Rattle.std.specs.Prelude.{nat_lt, Option, Some, None}
 use Rattle.um_base.specs.declared.image.Image.{Image}
 use Rattle.um_words.specs.Packed.{cell_of}
 use Rattle.um_words.specs.declared.fine.FineAct.{FineAct}
-use Rattle.um_words.specs.declared.fine.Unseen.{Unseen}
 use Rattle.um_fine.specs.Cells.{Cell, cell_says, cell_takes, cell_word}
 use Rattle.um_fine.specs.Scheduler.{Scheduler}
 use Rattle.um_fine.specs.Sites.{SiteState, site_number}

@@ -1,24 +1,22 @@
 -- A step that the word of a row, of a thread or of a domain takes is lawful at its site.
-use Rattle.std.proofs.Common.{◌≡◌, ℕ, ◌+◌, ◌%◌, ◌<◌, Bool, true, false, None, Some, nat_lt, if◌then◌else◌, IsTrue, refl, sym, ap, ◌∙◌, subst, arith}
-use Rattle.std.proofs.lemmas.Bool.{and_parts, ltb-true, lt-ltb}
+use Rattle.std.proofs.Common.{◌≡◌, ℕ, ◌+◌, ◌%◌, ◌<◌, Bool, true, false, None, Some, nat_lt, if◌then◌else◌, IsTrue, sym, ap, ◌∙◌, subst, arith}
+use Rattle.std.proofs.lemmas.Bool.{lt-ltb}
 use Rattle.std.proofs.lemmas.Bool.Decides.{nat_tests}
-use Rattle.um_base.specs.declared.act.Act.{Act}
 use Rattle.um_base.specs.declared.image.Image.{Image}
 use Rattle.um_words.specs.declared.fine.FineAct.{FineAct}
-use Rattle.um_words.specs.declared.fine.Unseen.{Unseen}
 use Rattle.um_words.specs.declared.kind.WordKind.{WordKind}
 use Rattle.um_words.specs.declared.row_word.RowWord.{RowWord}
 use Rattle.um_words.specs.declared.thread_word.ThreadWord.{ThreadWord}
 use Rattle.um_words.specs.declared.dom_word.DomWord.{DomWord}
 use Rattle.um_words.specs.BitLists.{length-bits}
-use Rattle.um_words.specs.Domains.{DomainMay, counted_domain, domain_after, domain_after_act, domain_after_unseen, domain_takes, domain_takes_act, domain_takes_unseen, writes}
+use Rattle.um_words.specs.Domains.{DomainMay, counted_domain, domain_after}
 use Rattle.um_words.specs.WordFacts.{domain-keeps, thread-left as fits-left}
 use Rattle.um_words.specs.Packed.{FitsDomain, FitsRow, FitsThread, domain_in, domain_of, is_domain, is_thread, packed_domain, packed_row, packed_thread, row_of, thread_in, thread_of}
 use Rattle.um_words.specs.RowFacts.{row-fits}
 use Rattle.um_words.specs.RowActs.{row_act_at, row_answers}
 use Rattle.um_words.specs.Rows.{RowMay, counted_row, row_after}
 use Rattle.um_words.specs.Steps.{StepIn, WordMay, cell_kind_at, kind_at, number, number_in}
-use Rattle.um_words.specs.Threads.{ThreadMay, counted_thread, thread_after, thread_after_act}
+use Rattle.um_words.specs.Threads.{ThreadMay, counted_thread, thread_after}
 use Rattle.um_fine.proofs.Words.{domain-may, row-may, thread-may}
 use Rattle.um_fine.specs.Answers.{domain_in as domain_word, row_in, thread_in as thread_word}
 use Rattle.um_fine.proofs.Keys.{number-back}

@@ -1,5 +1,4 @@
-use Rattle.std.proofs.Common.{rules, arith, ◌≡◌, ◌∙◌, ap, subst, List}
-use Rattle.um_base.specs.declared.ask.Waiter.{Waiter}
+use Rattle.std.proofs.Common.{rules, arith, ◌≡◌, ◌∙◌, ap}
 use Rattle.um_fine.specs.Cells.{Cell}
 use Rattle.um_fine.specs.Seeking.{finds}
 use Rattle.um_fine.specs.Steps.{Site}

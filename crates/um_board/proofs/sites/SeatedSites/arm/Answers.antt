@@ -11,7 +11,6 @@ use Rattle.um_board.proofs.CellSteps.{cell-takes}
 use Rattle.um_board.proofs.Keeping.{noted-then}
 use Rattle.um_board.proofs.Keeping.{unnoted-then}
 use Rattle.um_board.proofs.NextRuns.{next-then}
-use Rattle.um_board.proofs.Saws.{got-more}
 use Rattle.um_board.specs.Saw.{Hinders}
 use Rattle.um_board.proofs.sites.SeatedSites.arm.Goals as goal
 

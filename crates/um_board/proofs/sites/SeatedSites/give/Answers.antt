@@ -1,4 +1,4 @@
-use Rattle.std.proofs.Common.{rules, ℕ, ◌≡◌, ◌≤◌, ◌∙◌, ap, refl, subst, sym, arith, None, Some, Option}
+use Rattle.std.proofs.Common.{rules, ℕ, ◌≡◌, ◌≤◌, ◌∙◌, ap, refl, subst, sym, arith, Some}
 use Rattle.um_base.specs.Weight.{weight}
 use Rattle.um_fine.specs.Cells.{Cell}
 use Rattle.um_fine.specs.Clock.{first_due, give_first}
@@ -7,7 +7,6 @@ use Rattle.um_tables.proofs.Timing.{given-is, none-given}
 use Rattle.um_tables.specs.Timed.{Timed, with_marks}
 use Rattle.um_tables.specs.Timed.{given_of}
 use Rattle.um_words.specs.declared.fine.FineAct.{FineAct}
-use Rattle.um_words.specs.declared.fine.Mark.{Mark}
 use Rattle.um_words.specs.declared.fine.Unseen.{Unseen}
 use Rattle.um_board.proofs.CellSteps.{cell-takes}
 use Rattle.um_board.proofs.Keeping.{noted-then}

@@ -6,7 +6,7 @@ use Rattle.um_base.specs.declared.ask.Ask.{Ask}
 use Rattle.um_fine.specs.Cells.{Cell}
 use Rattle.um_fine.specs.Joins.{Joins}
 use Rattle.um_fine.specs.Joins.{begins_waiting, join_answer}
-use Rattle.um_fine.specs.Steps.{Exchange, Site}
+use Rattle.um_fine.specs.Steps.{Site}
 use Rattle.um_tables.specs.Asked.{by_thread}
 use Rattle.um_tables.specs.JoinActs.{join_act}
 use Rattle.um_tables.specs.Seekers.{seeking}

@@ -1,4 +1,4 @@
-use Rattle.std.proofs.Common.{arith, rules, ◌≡◌, ◌∙◌, ◌+◌, ◌-◌, ◌<◌, ap, refl, subst, false, nat_lt}
+use Rattle.std.proofs.Common.{arith, rules, ◌≡◌, ◌∙◌, ◌-◌, ◌<◌, ap, refl, subst, false, nat_lt}
 use Rattle.std.proofs.lemmas.Bool.{lt-ltb}
 use Rattle.um_fine.specs.Cells.{Cell}
 use Rattle.um_fine.specs.Scheduler.{Scheduler}

@@ -1,4 +1,4 @@
-use Rattle.std.proofs.Common.{rules, ◌≡◌, ◌∙◌, ap, refl, sym, subst, true, None, Some, slice_set}
+use Rattle.std.proofs.Common.{rules, ◌≡◌, ◌∙◌, ap, refl, sym, None, slice_set}
 use Rattle.um_fine.specs.Cells.{Cell}
 use Rattle.um_fine.specs.Joins.{Joins}
 use Rattle.um_fine.specs.Joins.{asleep_at, sleeps}

@@ -1,7 +1,6 @@
 use Rattle.std.proofs.Common.{rules, ◌≡◌, ◌∙◌, ap, refl, sym, subst, None, Some, slice_set}
 use Rattle.um_fine.specs.Cells.{Cell}
 use Rattle.um_fine.specs.Context.{Context}
-use Rattle.um_fine.specs.Joins.{Joins}
 use Rattle.um_fine.specs.Steps.{Exchange, Site}
 use Rattle.um_tables.specs.JoinActs.{slept_made}
 use Rattle.um_words.specs.declared.fine.FineAct.{FineAct}
