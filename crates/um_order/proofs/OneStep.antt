@@ -41,7 +41,7 @@ use Rattle.um_refinement.proofs.CleanSteps.{OwnRows}
 use Rattle.um_refinement.proofs.ContextsPart.{is_shown}
 use Rattle.um_refinement.proofs.Erased.{around}
 use Rattle.um_refinement.proofs.LawfulSteps.{Suits}
-use Rattle.um_refinement.proofs.Leaves.{Lawful}
+use Rattle.um_refinement.proofs.Leaves.{Lawful, Leaves}
 use Rattle.um_refinement.proofs.MemoryPart.{InDomains}
 use Rattle.um_refinement.proofs.Offered.{IsStep, IsStopping, Shows, by-made}
 use Rattle.um_refinement.proofs.ResumeSteps.{TellsWaiters}
@@ -57,7 +57,7 @@ use Rattle.um_order.proofs.NextSteps.{ChoosesLeast}
 use Rattle.um_order.proofs.QuietSteps.{quiet-begun}
 use Rattle.um_order.proofs.Reserves.{chooses-least}
 use Rattle.um_order.proofs.ShowSteps.{shown-begun, shown-opens, stirs}
-use Rattle.um_order.proofs.Standing.{Begun, Holds, Idles, IsAway, IsFull, Looks, Opens, Pays, PutsAway, Stands, away, begun, gives_up, holds, idles, is_show, looks, looks_again, opens, pays, puts_to_sleep, rouses}
+use Rattle.um_order.proofs.Standing.{Begun, Holds, Idles, IsAway, IsFull, Looks, Opens, Pays, PutsAway, Stands, away, begun, gives_up, goes, holds, idles, is_show, looks, looks_again, opens, pays, puts_to_sleep, rouses}
 use Rattle.um_order.proofs.StopOrder.{continue-follows}
 use Rattle.um_order.proofs.TakeSteps.{away-on, idle-on, opens-on}
 
@@ -69,6 +69,12 @@ is_turn (Todo.clean_pair who x) = true
 is_turn (Todo.recycle x) = true
 is_turn Todo.leave = true
 is_turn q = false
+
+-- whom a step stops, or goes on with
+abbrev stirred : Pending → Option ℕ
+stirred (Pending.Abort who) = Some who.0
+stirred (Pending.Continue who) = Some who.0
+stirred q = None
 
 -- the first step on a list
 abbrev is_turn_first : Todos → Bool
@@ -95,6 +101,25 @@ module _ (f : Fine) (at : Point) (e : FineStep) (law : Lawful f at.state e) (one
     pub calm_word : (site : ℕ) (todo : Todos) → p.todo ≡ Todo.reread site ∷ todo → (thread_in e.word).aborted ≡ false
     -- a look finds who waits, and a mark in the hand whom it is for
     pub look_void : (who site before : ℕ) (todo : Todos) → p.todo ≡ Todo.look who site before ∷ todo → is_void e.act ≡ true → is_waiting (thread_at at.state who) ≡ false
+    -- behind a step that stops another thread, or goes on with one, its thread goes on; that one is no doomed thread, nor the own one where it goes on
+    pub stir_goes : (q : Pending) (rest : Steps) (todo : Todos) → Shows f at.state e.cpu e q rest todo → stirs q (act_in e.act) ≡ true
+        → goes (continues f.image p.context 0 q rest (act_in e.act) e.moved).pending ≡ true
+    pub stir_who : (q : Pending) (rest : Steps) (todo : Todos) (x u : ℕ) → Shows f at.state e.cpu e q rest todo → stirred q ≡ Some u
+        → (u < THREADS) × ((thread_at (T.after at.state p.context.thread x q rest) u).doomed ≡ false)
+    pub continue_other : (who : ThreadIx) (rest : Steps) (todo : Todos) → Shows f at.state e.cpu e (Pending.Continue who) rest todo → (p.context.thread == who.0) ≡ false
+    -- who is aborted waits only with a note, and is at rest only without one
+    pub abort_idle : (who : ThreadIx) (rest : Steps) (todo : Todos) (x : ℕ) → Shows f at.state e.cpu e (Pending.Abort who) rest todo → (thread_in e.word).note ≡ None
+        → is_waiting (thread_at (T.after at.state p.context.thread x (Pending.Abort who) rest) who.0) ≡ false
+    pub abort_busy : (who : ThreadIx) (rest : Steps) (todo : Todos) (x site : ℕ) → Shows f at.state e.cpu e (Pending.Abort who) rest todo → (thread_in e.word).note ≡ Some site
+        → is_at_rest (T.after at.state p.context.thread x (Pending.Abort who) rest) who.0 ≡ false
+    -- a join that says that its thread is no longer joined has the least row
+    pub join_least : (who : ThreadIx) (timeout : Timeout) (rest : Steps) (todo : Todos) (x : ℕ) → Shows f at.state e.cpu e (Pending.Join who timeout) rest todo → IsStep f at.state e.cpu e x (Pending.Join who timeout)
+        → IsLeast at.state p.context.thread (Pending.Join who timeout) x
+    -- the thread by which the processor makes the events of time made the last event
+    pub last_tick : is_tick e.act ≡ true → at.last ≡ Some (to_thread (actor_or f.image p.actor))
+    -- a mark in the hand whose step is made: its event follows
+    pub hand_follows : (deadline : ℕ) (mark : Mark) (todo : Todos) (s2 : State) → p.todo ≡ Todo.handle deadline mark ∷ todo → is_void e.act ≡ false → Leaves f at.state e s2 → Rel later s2 → AreBounded later
+        → Holds p (scheduler f) (clock f).marks at → Followed f at e law one orderly s2
     pub hand_void : (deadline : ℕ) (mark : Mark) (todo : Todos) → p.todo ≡ Todo.handle deadline mark ∷ todo → is_void e.act ≡ true → (a : Arming) → IsArmed deadline mark a → makes_step at.state a ≡ false
 
   stays : Stands now (scheduler later) (joins later) (clock later).marks at → (act : FineAct) → e.act ≡ act → is_shown act ≡ false → Followed f at e law one orderly at.state
@@ -196,3 +221,52 @@ module _ (f : Fine) (at : Point) (e : FineStep) (law : Lawful f at.state e) (one
 
     pub event-opens : Opens p (scheduler f) (clock f).marks at → Followed f at e law one orderly (T.after at.state p.context.thread x q rest)
     event-opens was = shown-opens f at e law one orderly kept lawful suits all q rest todo x h shown is calm related tells bounded full chooses (arms f at e law one orderly kept lawful suits all q rest todo x h shown is calm) was
+
+  -- an event that stops or continues a thread
+  module _ (known : Known) where
+    stir-follows : (q : Pending) (rest : Steps) (todo : Todos) (x : ℕ) → Shows f at.state e.cpu e q rest todo → IsStep f at.state e.cpu e x q → stirs q (act_in e.act) ≡ true → Rel later (T.after at.state p.context.thread x q rest)
+        → IsFull at.state p.context.thread p.context.pending → Begun p (scheduler f) (clock f).marks at → Followed f at e law one orderly (T.after at.state p.context.thread x q rest)
+    stir-follows (Pending.Continue who) rest todo x h is done related full was =
+        let whom = known.stir_who (Pending.Continue who) rest todo x who.0 h refl in
+        continue-follows f at e law one orderly suits all was who rest todo x h is done full (known.stir_goes (Pending.Continue who) rest todo h done) related whom.0 whom.1 (known.continue_other who rest todo h)
+    stir-follows (Pending.Abort who) rest todo x h is done related full was = by (who.0 == p.context.thread) refl (thread_in e.word).note refl
+      where
+        whom : (who.0 < THREADS) × ((thread_at (T.after at.state p.context.thread x (Pending.Abort who) rest) who.0).doomed ≡ false)
+        whom = known.stir_who (Pending.Abort who) rest todo x who.0 h refl
+
+        going : goes (continues f.image p.context 0 (Pending.Abort who) rest (act_in e.act) e.moved).pending ≡ true
+        going = known.stir_goes (Pending.Abort who) rest todo h done
+
+        by : (b : Bool) → (who.0 == p.context.thread) ≡ b → (o : Option ℕ) → (thread_in e.word).note ≡ o → Followed f at e law one orderly (T.after at.state p.context.thread x (Pending.Abort who) rest)
+        by true mine o note = aborts-itself f at e law one orderly suits all was who rest todo x h is done full going related whom.0 whom.1 mine
+        by false other None note =
+            aborts-rouses f at e law one orderly suits all was who rest todo x h is done full going related whom.0 whom.1 other note (known.abort_idle who rest todo x h note)
+        by false other (Some site) note =
+            aborts-looks f at e law one orderly suits all was who rest todo x h is done full going related whom.0 whom.1 other site note (known.abort_busy who rest todo x site h note)
+    stir-follows q rest todo x h is done related full was = absurd (false≢true done)
+
+    -- what is first on the list of a processor
+    is-idle : p.todo ≡ [] → Stands p (scheduler f) (joins f) (clock f).marks at → Idles p (scheduler f) (clock f).marks at
+    is-idle list st = by st
+      where
+        never : (todo : Todos) → p.todo ≡ todo → has_steps todo ≡ true → Idles p (scheduler f) (clock f).marks at
+        never todo is some = absurd (false≢true (sym (ap has_steps list) ∙ (ap has_steps is ∙ some)))
+
+        put-away : (todo : Todos) → IsAway todo → has_steps todo ≡ true
+        put-away _ gives_up = refl
+        put-away _ puts_to_sleep = refl
+        put-away _ looks_again = refl
+
+        paying : (todo : Todos) → IsPaying todo → has_steps todo ≡ true
+        paying [] h = absurd h
+        paying (q ∷ todo) h = refl
+
+        by : Stands p (scheduler f) (joins f) (clock f).marks at → Idles p (scheduler f) (clock f).marks at
+        by (idles was) = was
+        by (opens was) = never (was.first ∷ []) was.list refl
+        by (away was) = never p.todo refl (put-away p.todo was.list)
+        by (begun was) = never p.todo refl was.0.runs
+        by (rouses was) = never (Todo.rouse was.who ∷ was.todo) was.list refl
+        by (looks was) = never (Todo.look was.who was.site was.before ∷ was.todo) was.list refl
+        by (holds was) = never (Todo.handle was.deadline was.mark ∷ Todo.paid ∷ []) was.list refl
+        by (pays was) = never p.todo refl (paying p.todo was.list)
