@@ -1,6 +1,7 @@
 -- With each lawful step of the one processor its event follows, or the point stays.
 use Rattle.std.proofs.Common.{◌≡◌, ◌⊎◌, inl, inr, ℕ, ◌<◌, Bool, true, false, [], ◌∷◌, Option, Some, None, refl, sym, ap, ◌∙◌, subst}
-use Rattle.std.specs.Prelude.{◌==◌, if◌then◌else◌}
+use Rattle.std.specs.Prelude.{◌==◌, if◌then◌else◌, is_some}
+use Rattle.std.specs.List.{list_all}
 use Rattle.std.proofs.lemmas.Bool.{false≢true, true≢false}
 use Rattle.um_base.specs.declared.act.Act.{Act}
 use Rattle.um_base.specs.declared.limits.TheConstants.{THREADS}
@@ -43,7 +44,8 @@ use Rattle.um_refinement.proofs.Erased.{around}
 use Rattle.um_refinement.proofs.LawfulSteps.{Suits}
 use Rattle.um_refinement.proofs.Leaves.{Lawful, Leaves}
 use Rattle.um_refinement.proofs.MemoryPart.{InDomains}
-use Rattle.um_refinement.proofs.Offered.{IsStep, IsStopping, Shows, by-made}
+use Rattle.um_refinement.proofs.Offered.{IsStep, Shows, by-made, shows-runs}
+use Rattle.um_refinement.proofs.StepReads.{shows_first}
 use Rattle.um_refinement.proofs.ResumeSteps.{TellsWaiters}
 use Rattle.um_refinement.proofs.SchedulerSteps.{made-says}
 use Rattle.um_refinement.proofs.WordsKept.{IsShown}
@@ -57,7 +59,7 @@ use Rattle.um_order.proofs.NextSteps.{ChoosesLeast}
 use Rattle.um_order.proofs.QuietSteps.{quiet-begun}
 use Rattle.um_order.proofs.Reserves.{chooses-least}
 use Rattle.um_order.proofs.ShowSteps.{shown-begun, shown-opens, stirs}
-use Rattle.um_order.proofs.Standing.{Begun, Holds, Idles, IsAway, IsFull, Looks, Opens, Pays, PutsAway, Stands, away, begun, gives_up, goes, holds, idles, is_show, looks, looks_again, opens, pays, puts_to_sleep, rouses}
+use Rattle.um_order.proofs.Standing.{Begun, Holds, Idles, IsAway, IsFull, Looks, Opens, Pays, PutsAway, Stands, away, begun, gives_up, goes, holds, idles, is_calm, is_show, looks, looks_again, opens, pays, puts_to_sleep, rouses}
 use Rattle.um_order.proofs.StopOrder.{continue-follows}
 use Rattle.um_order.proofs.TakeSteps.{away-on, idle-on, opens-on}
 
@@ -75,6 +77,14 @@ abbrev stirred : Pending → Option ℕ
 stirred (Pending.Abort who) = Some who.0
 stirred (Pending.Continue who) = Some who.0
 stirred q = None
+
+abbrev looked_first : Todos → Option ℕ
+looked_first (Todo.look who site before ∷ todo) = Some who
+looked_first todo = None
+
+abbrev handles_first : Todos → Bool
+handles_first (Todo.handle deadline mark ∷ todo) = true
+handles_first todo = false
 
 -- the first step on a list
 abbrev is_turn_first : Todos → Bool
@@ -270,3 +280,156 @@ module _ (f : Fine) (at : Point) (e : FineStep) (law : Lawful f at.state e) (one
         by (looks was) = never (Todo.look was.who was.site was.before ∷ was.todo) was.list refl
         by (holds was) = never (Todo.handle was.deadline was.mark ∷ Todo.paid ∷ []) was.list refl
         by (pays was) = never p.todo refl (paying p.todo was.list)
+
+    -- the phases in which an event of a pending step, a look and a mark in the hand are first
+    showing : (q : Pending) (rest : Steps) (todo : Todos) → p.todo ≡ Todo.show q rest ∷ todo → Stands p (scheduler f) (joins f) (clock f).marks at → Begun p (scheduler f) (clock f).marks at ⊎ Opens p (scheduler f) (clock f).marks at
+    showing q rest todo list st = by st
+      where
+        never : (todo : Todos) → p.todo ≡ todo → shows_first todo ≡ false → Begun p (scheduler f) (clock f).marks at ⊎ Opens p (scheduler f) (clock f).marks at
+        never todo is off = absurd (true≢false (sym (ap shows_first list) ∙ (ap shows_first is ∙ off)))
+
+        put-away : (todo : Todos) → IsAway todo → shows_first todo ≡ false
+        put-away _ gives_up = refl
+        put-away _ puts_to_sleep = refl
+        put-away _ looks_again = refl
+
+        paying : (todo : Todos) → IsPaying todo → shows_first todo ≡ false
+        paying [] h = refl
+        paying (Todo.wake who told ∷ todo) h = refl
+        paying (Todo.paid ∷ todo) h = refl
+        paying (q ∷ todo) h = absurd h
+
+        by : Stands p (scheduler f) (joins f) (clock f).marks at → Begun p (scheduler f) (clock f).marks at ⊎ Opens p (scheduler f) (clock f).marks at
+        by (idles was) = never [] was.list refl
+        by (opens was) = inr was
+        by (away was) = never p.todo refl (put-away p.todo was.list)
+        by (begun was) = inl was
+        by (rouses was) = never (Todo.rouse was.who ∷ was.todo) was.list refl
+        by (looks was) = never (Todo.look was.who was.site was.before ∷ was.todo) was.list refl
+        by (holds was) = never (Todo.handle was.deadline was.mark ∷ Todo.paid ∷ []) was.list refl
+        by (pays was) = never p.todo refl (paying p.todo was.list)
+
+    looking : (who site before : ℕ) (todo : Todos) → p.todo ≡ Todo.look who site before ∷ todo → Stands p (scheduler f) (joins f) (clock f).marks at → (was : Looks p (scheduler f) (clock f).marks at) × (was.who ≡ who)
+    looking who site before todo list st = by st
+      where
+        never : (todo : Todos) → p.todo ≡ todo → looked_first todo ≡ None → (was : Looks p (scheduler f) (clock f).marks at) × (was.who ≡ who)
+        never todo is off = absurd (false≢true (ap is_some (sym off ∙ (ap looked_first (sym is) ∙ ap looked_first list))))
+
+        put-away : (todo : Todos) → IsAway todo → looked_first todo ≡ None
+        put-away _ gives_up = refl
+        put-away _ puts_to_sleep = refl
+        put-away _ looks_again = refl
+
+        paying : (todo : Todos) → IsPaying todo → looked_first todo ≡ None
+        paying [] h = refl
+        paying (Todo.wake who told ∷ todo) h = refl
+        paying (Todo.paid ∷ todo) h = refl
+        paying (q ∷ todo) h = absurd h
+
+        calm-not : (todo : Todos) → list_all is_calm todo ≡ true → looked_first todo ≡ None
+        calm-not [] h = refl
+        calm-not (Todo.look who site before ∷ todo) h = absurd (false≢true h)
+        calm-not (q ∷ todo) h = refl
+
+        showing-not : (q : Todo) → is_show q ≡ true → looked_first (q ∷ []) ≡ None
+        showing-not (Todo.show r rest) h = refl
+        showing-not q h = absurd (false≢true h)
+
+        same-some : (a b : ℕ) → Some a ≡ Some b → a ≡ b
+        same-some a b h = cc
+
+        by : Stands p (scheduler f) (joins f) (clock f).marks at → (was : Looks p (scheduler f) (clock f).marks at) × (was.who ≡ who)
+        by (idles was) = never [] was.list refl
+        by (opens was) = never (was.first ∷ []) was.list (showing-not was.first was.is)
+        by (away was) = never p.todo refl (put-away p.todo was.list)
+        by (begun was) = never p.todo refl (calm-not p.todo was.0.calm)
+        by (rouses was) = never (Todo.rouse was.who ∷ was.todo) was.list refl
+        by (looks was) = (was, same-some was.who who (ap looked_first (sym was.list ∙ list)))
+        by (holds was) = never (Todo.handle was.deadline was.mark ∷ Todo.paid ∷ []) was.list refl
+        by (pays was) = never p.todo refl (paying p.todo was.list)
+
+    handling : (deadline : ℕ) (mark : Mark) (todo : Todos) → p.todo ≡ Todo.handle deadline mark ∷ todo → Stands p (scheduler f) (joins f) (clock f).marks at → Holds p (scheduler f) (clock f).marks at
+    handling deadline mark todo list st = by st
+      where
+        never : (todo : Todos) → p.todo ≡ todo → handles_first todo ≡ false → Holds p (scheduler f) (clock f).marks at
+        never todo is off = absurd (true≢false (sym (ap handles_first list) ∙ (ap handles_first is ∙ off)))
+
+        put-away : (todo : Todos) → IsAway todo → handles_first todo ≡ false
+        put-away _ gives_up = refl
+        put-away _ puts_to_sleep = refl
+        put-away _ looks_again = refl
+
+        paying : (todo : Todos) → IsPaying todo → handles_first todo ≡ false
+        paying [] h = refl
+        paying (Todo.wake who told ∷ todo) h = refl
+        paying (Todo.paid ∷ todo) h = refl
+        paying (q ∷ todo) h = absurd h
+
+        calm-not : (todo : Todos) → list_all is_calm todo ≡ true → handles_first todo ≡ false
+        calm-not [] h = refl
+        calm-not (Todo.handle deadline mark ∷ todo) h = absurd (false≢true h)
+        calm-not (q ∷ todo) h = refl
+
+        showing-not : (q : Todo) → is_show q ≡ true → handles_first (q ∷ []) ≡ false
+        showing-not (Todo.show r rest) h = refl
+        showing-not q h = absurd (false≢true h)
+
+        by : Stands p (scheduler f) (joins f) (clock f).marks at → Holds p (scheduler f) (clock f).marks at
+        by (idles was) = never [] was.list refl
+        by (opens was) = never (was.first ∷ []) was.list (showing-not was.first was.is)
+        by (away was) = never p.todo refl (put-away p.todo was.list)
+        by (begun was) = never p.todo refl (calm-not p.todo was.0.calm)
+        by (rouses was) = never (Todo.rouse was.who ∷ was.todo) was.list refl
+        by (looks was) = never (Todo.look was.who was.site was.before ∷ was.todo) was.list refl
+        by (holds was) = was
+        by (pays was) = never p.todo refl (paying p.todo was.list)
+
+    -- what stops or continues a thread isn't the first of a turn
+    opens-calm : (q : Pending) (rest : Steps) (todo : Todos) → Shows f at.state e.cpu e q rest todo → Opens p (scheduler f) (clock f).marks at → stirs q (act_in e.act) ≡ false
+    opens-calm q rest todo h was = by-made h (λ z. stirs z (act_in e.act) ≡ false) (λ killed. calm h.listed offered was.rests) (λ killed stopping. refl)
+      where
+        offered : IsOffered f.image p.context h.listed rest
+        offered = (subst (Fits f.image p.context) h.at (law.rel.processors e.cpu law.by.named).list.fits).0
+
+        stirs_first : Steps → Bool
+        stirs_first [] = false
+        stirs_first (r ∷ more) = stirs r (act_in e.act)
+
+        first_of : (z : Pending) (more : Steps) → p.context.pending ≡ z ∷ more → (p.context.pending ≡ []) ⊎ (p.context.pending ≡ Pending.Killed ∷ []) → stirs z (act_in e.act) ≡ false
+        first_of z more k (inl none) = ap stirs_first (sym k ∙ none)
+        first_of z more k (inr killed) = ap stirs_first (sym k ∙ killed)
+
+        has_second : Steps → Bool
+        has_second (r ∷ s ∷ more) = true
+        has_second steps = false
+
+        no-second : (r z : Pending) (more : Steps) → p.context.pending ≡ r ∷ z ∷ more → (p.context.pending ≡ []) ⊎ (p.context.pending ≡ Pending.Killed ∷ []) → ⊥
+        no-second r z more k (inl none) = true≢false (ap has_second (sym k ∙ none))
+        no-second r z more k (inr killed) = true≢false (ap has_second (sym k ∙ killed))
+
+        calm : (z : Pending) → IsOffered f.image p.context z rest → (p.context.pending ≡ []) ⊎ (p.context.pending ≡ Pending.Killed ∷ []) → stirs z (act_in e.act) ≡ false
+        calm z o rests = which z rest o
+          where
+            which : (z : Pending) (more : Steps) → IsOffered f.image p.context z more → stirs z (act_in e.act) ≡ false
+            which z more (O.goes k) = first_of z more k rests
+            which z more (O.passed {who} k) = absurd (no-second (Pending.Inherit who) z more k rests)
+            which z more (O.dropped {from} k) = absurd (no-second (Pending.Drops from) z more k rests)
+            which _ _ (O.begins k on i) = refl
+            which _ _ (O.exits k on i) = refl
+
+    event-follows : (q : Pending) (rest : Steps) (todo : Todos) (x : ℕ) → Shows f at.state e.cpu e q rest todo → IsShown q → IsStep f at.state e.cpu e x q → Rel later (T.after at.state p.context.thread x q rest)
+        → TellsWaiters (T.after at.state p.context.thread x q rest) → AreBounded later → Stands p (scheduler f) (joins f) (clock f).marks at → Followed f at e law one orderly (T.after at.state p.context.thread x q rest)
+    event-follows q rest todo x h shown is related tells bounded st = by (stirs q (act_in e.act)) refl (showing h.listed rest todo h.at st)
+      where
+        full : IsFull at.state p.context.thread p.context.pending
+        full = known.full (shows-runs h)
+
+        least : (who : ThreadIx) (timeout : Timeout) → q ≡ Pending.Join who timeout → IsLeast at.state p.context.thread (Pending.Join who timeout) x
+        least who timeout w =
+            known.join_least who timeout rest todo x (subst (λ (r : Pending). Shows f at.state e.cpu e r rest todo) w h) (subst (λ (r : Pending). IsStep f at.state e.cpu e x r) w is)
+
+        by : (b : Bool) → stirs q (act_in e.act) ≡ b → Begun p (scheduler f) (clock f).marks at ⊎ Opens p (scheduler f) (clock f).marks at → Followed f at e law one orderly (T.after at.state p.context.thread x q rest)
+        by false calm (inl was) = event-begun q rest todo x h shown is calm least related tells bounded full was
+        by false calm (inr was) = event-opens q rest todo x h shown is calm least related tells bounded full was
+        by true stir (inl was) = stir-follows q rest todo x h is stir related full was
+        by true stir (inr was) = absurd (true≢false (sym stir ∙ opens-calm q rest todo h was))
