@@ -1,6 +1,6 @@
 -- With each lawful step of the one processor its event follows, or the point stays.
 use Rattle.std.proofs.Common.{◌≡◌, ◌⊎◌, inl, inr, ℕ, ◌<◌, Bool, true, false, [], ◌∷◌, Option, Some, None, refl, sym, ap, ◌∙◌, subst}
-use Rattle.std.specs.Prelude.{◌==◌, if◌then◌else◌, is_some}
+use Rattle.std.specs.Prelude.{◌==◌, IsTrue, if◌then◌else◌, is_some}
 use Rattle.std.specs.List.{list_all}
 use Rattle.std.proofs.lemmas.Bool.{false≢true, true≢false}
 use Rattle.um_base.specs.declared.act.Act.{Act}
@@ -10,7 +10,8 @@ use Rattle.um_base.specs.declared.names.Timeout.{Timeout}
 use Rattle.um_base.specs.Lawful.{IsLawful}
 use Rattle.um_machine.specs.declared.pending.Pending.{Pending}
 use Rattle.um_machine.specs.Order.{Steps, to_thread}
-use Rattle.um_machine.specs.State.{State, is_waiting, thread_at}
+use Rattle.um_machine.specs.Run.{MayChoose}
+use Rattle.um_machine.specs.State.{State, is_started, is_waiting, thread_at}
 use Rattle.um_machine.specs.Table as T
 use Rattle.um_invariants.specs.Armings.{Arming, makes_step}
 use Rattle.um_invariants.specs.InOrder.{Point}
@@ -42,19 +43,24 @@ use Rattle.um_refinement.proofs.CleanSteps.{OwnRows}
 use Rattle.um_refinement.proofs.ContextsPart.{is_shown}
 use Rattle.um_refinement.proofs.Erased.{around}
 use Rattle.um_refinement.proofs.LawfulSteps.{Suits}
-use Rattle.um_refinement.proofs.Leaves.{Lawful, Leaves}
+use Rattle.um_refinement.proofs.Leaves as L
+use Rattle.um_refinement.proofs.Leaves.{Beside, HasStep, Lawful, Leaves, beside, cleans, cuts, drops, event, expires, nothing, passes, recycles, resumes, ticks, times_out}
 use Rattle.um_refinement.proofs.MemoryPart.{InDomains}
-use Rattle.um_refinement.proofs.Offered.{IsStep, Shows, by-made, shows-runs}
+use Rattle.um_refinement.proofs.Offered.{IsStep, Shows, by-made, runs-first, shows-runs}
+use Rattle.um_refinement.proofs.Reachable.{sound-held}
 use Rattle.um_refinement.proofs.StepReads.{shows_first}
 use Rattle.um_refinement.proofs.ResumeSteps.{TellsWaiters}
 use Rattle.um_refinement.proofs.SchedulerSteps.{made-says}
+use Rattle.um_refinement.proofs.VisitSteps.{visit-runs}
 use Rattle.um_refinement.proofs.WordsKept.{IsShown}
 use Rattle.um_order.proofs.AbortOrder.{aborts-itself, aborts-looks, aborts-rouses}
 use Rattle.um_order.proofs.ArmOrder.{arms}
 use Rattle.um_order.proofs.ArmingOrder.{AreSettled, IsArmed}
+use Rattle.um_order.proofs.CleanOrder.{Cleaned, pair-follows, recycle-follows}
 use Rattle.um_order.proofs.Follow.{Followed, FollowsBy}
 use Rattle.um_order.proofs.HandOrder.{hold-void, pays-on}
-use Rattle.um_order.proofs.LookSteps.{look-void, rouse-on}
+use Rattle.um_order.proofs.LookSteps.{cut-follows, look-void, rouse-on}
+use Rattle.um_order.proofs.LeaveOrder.{leave-follows}
 use Rattle.um_order.proofs.NextSteps.{ChoosesLeast}
 use Rattle.um_order.proofs.QuietSteps.{quiet-begun}
 use Rattle.um_order.proofs.Reserves.{chooses-least}
@@ -62,6 +68,9 @@ use Rattle.um_order.proofs.ShowSteps.{shown-begun, shown-opens, stirs}
 use Rattle.um_order.proofs.Standing.{Begun, Holds, Idles, IsAway, IsFull, Looks, Opens, Pays, PutsAway, Stands, away, begun, gives_up, goes, holds, idles, is_calm, is_show, looks, looks_again, opens, pays, puts_to_sleep, rouses}
 use Rattle.um_order.proofs.StopOrder.{continue-follows}
 use Rattle.um_order.proofs.TakeSteps.{away-on, idle-on, opens-on}
+use Rattle.um_order.proofs.TakeOrder.{resume-follows}
+use Rattle.um_order.proofs.TickOrder.{tick-follows}
+use Rattle.um_order.proofs.VisitOrder.{drop-follows, fits-drop, fits-pass, pass-follows}
 
 -- the steps by which none but a turn that has begun goes on
 abbrev is_turn : Todo → Bool
@@ -71,6 +80,14 @@ is_turn (Todo.clean_pair who x) = true
 is_turn (Todo.recycle x) = true
 is_turn Todo.leave = true
 is_turn q = false
+
+abbrev tail : Steps → Steps
+tail [] = []
+tail (q ∷ rest) = rest
+
+abbrev from_of : Steps → ℕ
+from_of (Pending.Drops from ∷ rest) = from
+from_of steps = 0
 
 -- whom a step stops, or goes on with
 abbrev stirred : Pending → Option ℕ
@@ -433,3 +450,54 @@ module _ (f : Fine) (at : Point) (e : FineStep) (law : Lawful f at.state e) (one
         by false calm (inr was) = event-opens q rest todo x h shown is calm least related tells bounded full was
         by true stir (inl was) = stir-follows q rest todo x h is stir related full was
         by true stir (inr was) = absurd (true≢false (sym stir ∙ opens-calm q rest todo h was))
+
+    of-cleaned : (was : Begun p (scheduler f) (clock f).marks at) (s2 : State) → Cleaned f at e law kept was s2 → Followed f at e law one orderly s2
+    of-cleaned was s2 g = record { point = record at { state = s2 }; follows = g.follows; state = refl; stands = begun g.begun }
+
+    pub by-leaves : OwnRows f.image → RestsHoldNothing at.state → (s2 : State) (leaves : Leaves f at.state e s2) → HasStep f at.state e s2 leaves → Rel later s2 → TellsWaiters s2 → AreBounded later
+        → Stands p (scheduler f) (joins f) (clock f).marks at → Followed f at e law one orderly s2
+    by-leaves own rests _ (nothing u said) has related tells bounded st = quiet-follows known (ap is_shown said) st
+    by-leaves own rests _ (event q rest todo x h shown is) has related tells bounded st = event-follows q rest todo x h shown is related tells bounded st
+    by-leaves own rests _ (resumes c told rest idle moved said) has related tells bounded st =
+        resume-follows f at e law one orderly c told rest (is-idle idle st) moved said has related tells bounded
+    by-leaves own rests _ (passes who x rest todo h said) has related tells bounded st =
+        let was = has-begun (Todo.pass who x) todo h.at refl st in
+        let fits = fits-pass f at e law one orderly suits all was who x todo h in
+        subst
+        (λ (left : Steps). Rel later (T.after m p.context.thread x (Pending.Inherit (to_thread who)) left) → TellsWaiters (T.after m p.context.thread x (Pending.Inherit (to_thread who)) left)
+        → Followed f at e law one orderly (T.after m p.context.thread x (Pending.Inherit (to_thread who)) left))
+        (ap tail (sym fits.0.pending ∙ has))
+        (λ r t. pass-follows f at e law one orderly suits all was who x todo h r t bounded (known.full (visit-runs h (λ hand. hand)))) related tells
+    by-leaves own rests _ (drops from x rest todo h said) has related tells bounded st =
+        let was = has-begun (Todo.drop x) todo h.at refl st in
+        let held = sound-held m law.sound x p.context.thread h.few in
+        let fits = fits-drop f at e law one orderly suits all was x todo h held in
+        subst
+        (λ (z : ℕ × Steps). Rel later (T.after m p.context.thread x (Pending.Drops z.0) z.1) → TellsWaiters (T.after m p.context.thread x (Pending.Drops z.0) z.1)
+        → Followed f at e law one orderly (T.after m p.context.thread x (Pending.Drops z.0) z.1))
+        (λ i. (ap from_of (sym fits.pending ∙ has) i, ap tail (sym fits.pending ∙ has) i))
+        (λ r t. drop-follows f at e law one orderly suits all was x todo h held r t bounded (known.full (visit-runs h (λ hand. hand)))) related tells
+    by-leaves own rests _ (cleans who x rest todo h said) has related tells bounded st =
+        let was = has-begun (Todo.clean_pair who x) todo h.at refl st in
+        of-cleaned was _ (pair-follows f at e law kept was who x rest todo h (calls-known m law.sound rests) own (sound-held m law.sound x who h.few))
+    by-leaves own rests _ (recycles x rest todo list l said chosen) has related tells bounded st =
+        let was = has-begun (Todo.recycle x) todo list refl st in of-cleaned was _ (recycle-follows f at e law kept was x rest todo list said chosen)
+    by-leaves own rests _ (beside t x q how chosen started) has related tells bounded st = by how chosen started (beside t x q how chosen started) related tells
+      where
+        by : {t x : ℕ} {q : Pending} → Beside f m e t x q → MayChoose m t x q → IsTrue (is_started (thread_at m t).life) → Leaves f m e (T.after m t x q (thread_at m t).pending)
+            → Rel later (T.after m t x q (thread_at m t).pending) → TellsWaiters (T.after m t x q (thread_at m t).pending) → Followed f at e law one orderly (T.after m t x q (thread_at m t).pending)
+        by (cuts who site before x todo list same few said) chosen started l r t =
+            let found = looking who site before todo list st in
+            subst
+            (λ (n : ℕ). e.act ≡ by_me f.image p (Act.Cut (to_thread n)) → MayChoose m p.context.thread x (Pending.Cut (to_thread n))
+            → Followed f at e law one orderly (T.after m p.context.thread x (Pending.Cut (to_thread n)) (thread_at m p.context.thread).pending)) found.1
+            (λ said chosen. cut-follows f at e law found.0 one orderly kept x said chosen) said chosen
+        by (times_out deadline site x who todo list same few said) chosen started l r t =
+            known.hand_follows deadline (Mark.Thread who site) todo _ list (ap is_void said) l r bounded (handling deadline (Mark.Thread who site) todo list st)
+        by (expires deadline x todo list few said) chosen started l r t =
+            known.hand_follows deadline (Mark.Timer x) todo _ list (ap is_void said) l r bounded (handling deadline (Mark.Timer x) todo list st)
+        by (ticks list said) chosen started l r t =
+            tick-follows f at e law one orderly (is-idle list st) (ap is_tick said) known.chosen (known.settled list) (known.last_tick (ap is_tick said)) chosen started
+        by (L.leaves todo list said) chosen started l r t =
+            leave-follows f at e law one orderly proper (has-begun Todo.leave todo list refl st) todo list said r t bounded
+            (known.full (runs-first law.rel law.by.named Todo.leave todo list (λ hand. hand)))
