@@ -10,6 +10,7 @@ pub mod Filling
 pub mod OneStep
 pub mod Sorts
 pub mod Counts
+pub mod Chosen
 pub mod OneRun
 pub mod OneWhole
 pub mod NamedSteps

@@ -1,6 +1,6 @@
 use Rattle.std.proofs.Common.{arith}
 use Rattle.um_core.proofs.Counts.{can-count}
-use Rattle.um_core.proofs.OneRun.{one-run, picked-fine}
+use Rattle.um_core.proofs.OneRun.{one-run, picked-chosen, picked-fine}
 use Rattle.um_core.proofs.laws.every_order.Goals as goal
 
 pub returns-clause-one : goal.returns-clause-one
@@ -8,6 +8,9 @@ returns-clause-one c = λ image cpus pick steps steps2 run run2. one-run image c
 
 pub returns-clause-fine : goal.returns-clause-fine
 returns-clause-fine c = λ image cpus pick steps run. picked-fine image cpus pick steps run
+
+pub returns-clause-chosen : goal.returns-clause-chosen
+returns-clause-chosen c = λ image cpus pick steps run. picked-chosen image cpus pick steps run
 
 pub returns-clause-run : goal.returns-clause-run
 returns-clause-run c = λ image cpus pick steps described run.
