@@ -66,7 +66,7 @@ use Rattle.um_order.proofs.QuietSteps.{quiet-begun}
 use Rattle.um_order.proofs.Reserves.{chooses-least}
 use Rattle.um_order.proofs.ShowSteps.{shown-begun, shown-opens, stirs}
 use Rattle.um_order.proofs.Standing.{Begun, Holds, Idles, IsAway, IsFull, Looks, Opens, Pays, PutsAway, Stands, away, begun, gives_up, goes, holds, idles, is_calm, is_show, looks, looks_again, opens, pays, puts_to_sleep, rouses}
-use Rattle.um_order.proofs.StopOrder.{continue-follows}
+use Rattle.um_order.proofs.StopOrder.{continue-follows, continues-itself}
 use Rattle.um_order.proofs.TakeSteps.{away-on, idle-on, opens-on}
 use Rattle.um_order.proofs.TakeOrder.{resume-follows}
 use Rattle.um_order.proofs.TickOrder.{tick-follows}
@@ -128,12 +128,11 @@ module _ (f : Fine) (at : Point) (e : FineStep) (law : Lawful f at.state e) (one
     pub calm_word : (site : ℕ) (todo : Todos) → p.todo ≡ Todo.reread site ∷ todo → (thread_in e.word).aborted ≡ false
     -- a look finds who waits, and a mark in the hand whom it is for
     pub look_void : (who site before : ℕ) (todo : Todos) → p.todo ≡ Todo.look who site before ∷ todo → is_void e.act ≡ true → is_waiting (thread_at at.state who) ≡ false
-    -- behind a step that stops another thread, or goes on with one, its thread goes on; that one is no doomed thread, nor the own one where it goes on
+    -- behind a step that stops another thread, or goes on with one, its thread goes on; that one is no doomed thread
     pub stir_goes : (q : Pending) (rest : Steps) (todo : Todos) → Shows f at.state e.cpu e q rest todo → stirs q (act_in e.act) ≡ true
         → goes (continues f.image p.context 0 q rest (act_in e.act) e.moved).pending ≡ true
     pub stir_who : (q : Pending) (rest : Steps) (todo : Todos) (x u : ℕ) → Shows f at.state e.cpu e q rest todo → stirred q ≡ Some u
         → (u < THREADS) × ((thread_at (T.after at.state p.context.thread x q rest) u).doomed ≡ false)
-    pub continue_other : (who : ThreadIx) (rest : Steps) (todo : Todos) → Shows f at.state e.cpu e (Pending.Continue who) rest todo → (p.context.thread == who.0) ≡ false
     -- who is aborted waits only with a note, and is at rest only without one
     pub abort_idle : (who : ThreadIx) (rest : Steps) (todo : Todos) (x : ℕ) → Shows f at.state e.cpu e (Pending.Abort who) rest todo → (thread_in e.word).note ≡ None
         → is_waiting (thread_at (T.after at.state p.context.thread x (Pending.Abort who) rest) who.0) ≡ false
@@ -254,8 +253,17 @@ module _ (f : Fine) (at : Point) (e : FineStep) (law : Lawful f at.state e) (one
     stir-follows : (q : Pending) (rest : Steps) (todo : Todos) (x : ℕ) → Shows f at.state e.cpu e q rest todo → IsStep f at.state e.cpu e x q → stirs q (act_in e.act) ≡ true → Rel later (T.after at.state p.context.thread x q rest)
         → IsFull at.state p.context.thread p.context.pending → Begun p (scheduler f) (clock f).marks at → Followed f at e law one orderly (T.after at.state p.context.thread x q rest)
     stir-follows (Pending.Continue who) rest todo x h is done related full was =
-        let whom = known.stir_who (Pending.Continue who) rest todo x who.0 h refl in
-        continue-follows f at e law one orderly suits all was who rest todo x h is done full (known.stir_goes (Pending.Continue who) rest todo h done) related whom.0 whom.1 (known.continue_other who rest todo h)
+        by (p.context.thread == who.0) refl
+      where
+        whom : (who.0 < THREADS) × ((thread_at (T.after at.state p.context.thread x (Pending.Continue who) rest) who.0).doomed ≡ false)
+        whom = known.stir_who (Pending.Continue who) rest todo x who.0 h refl
+
+        going : goes (continues f.image p.context 0 (Pending.Continue who) rest (act_in e.act) e.moved).pending ≡ true
+        going = known.stir_goes (Pending.Continue who) rest todo h done
+
+        by : (b : Bool) → (p.context.thread == who.0) ≡ b → Followed f at e law one orderly (T.after at.state p.context.thread x (Pending.Continue who) rest)
+        by true mine = continues-itself f at e law one orderly suits all was who rest todo x h is done full going related mine
+        by false other = continue-follows f at e law one orderly suits all was who rest todo x h is done full going related whom.0 whom.1 other
     stir-follows (Pending.Abort who) rest todo x h is done related full was = by (who.0 == p.context.thread) refl (thread_in e.word).note refl
       where
         whom : (who.0 < THREADS) × ((thread_at (T.after at.state p.context.thread x (Pending.Abort who) rest) who.0).doomed ≡ false)

@@ -1,5 +1,5 @@
 -- A thread goes on with another one: the event follows, and the processor looks whether that one sleeps.
-use Rattle.std.proofs.Common.{◌≡◌, ◌⊎◌, inl, inr, ℕ, ◌+◌, ◌<◌, Bool, true, false, List, [], ◌∷◌, ◌++◌, Option, Some, None, refl, sym, ap, ◌∙◌, subst, arith, append-nil}
+use Rattle.std.proofs.Common.{◌≡◌, ◌⊎◌, inl, inr, ℕ, ◌+◌, ◌<◌, Bool, true, false, List, [], ◌∷◌, ◌++◌, Option, Some, None, refl, sym, ap, ◌∙◌, subst, arith, append-nil, eq-eqb}
 use Rattle.std.specs.Prelude.{◌==◌, ◌&&◌, not, if◌then◌else◌, is_some}
 use Rattle.std.specs.List.{list_any}
 use Rattle.std.proofs.lemmas.Bool.{and_parts, eqb-true, false≢true, true≢false}
@@ -24,11 +24,12 @@ use Rattle.um_fine.specs.Clock.{Clock}
 use Rattle.um_fine.specs.Context.{Context}
 use Rattle.um_fine.specs.Continues.{continues}
 use Rattle.um_fine.specs.Follows.{after_show, filled_up, goes_on_by, rereads, shown_step, with_actor}
-use Rattle.um_fine.specs.Joins.{sleeps}
+use Rattle.um_fine.specs.Joins.{asleep_at, sleeps}
 use Rattle.um_fine.specs.Places.{Todo, Todos, next_steps, put_away}
 use Rattle.um_fine.specs.Processor.{Processor}
 use Rattle.um_fine.specs.Sites.{same_site}
 use Rattle.um_fine.specs.Steps.{FineStep, Site}
+use Rattle.um_refinement.specs.Cleaning.{AreBlocks}
 use Rattle.um_refinement.specs.Fine.{Fine, clock, joins, one_if, scheduler}
 use Rattle.um_refinement.specs.Lists.{adders, of_thread, runs}
 use Rattle.um_refinement.specs.Offers.{Fits, IsOffered, is_over}
@@ -40,13 +41,16 @@ use Rattle.um_refinement.proofs.Erased.{around}
 use Rattle.um_refinement.proofs.LawfulSteps.{Suits}
 use Rattle.um_refinement.proofs.Leaves.{Lawful, event}
 use Rattle.um_refinement.proofs.ListAdders.{filled-adders}
+use Rattle.um_refinement.proofs.ListRuns.{goes-runs}
 use Rattle.um_refinement.proofs.ListTails.{exact-next}
 use Rattle.um_refinement.proofs.MarksPart.{clock-same}
 use Rattle.um_refinement.proofs.MemoryPart.{InDomains}
 use Rattle.um_refinement.proofs.OfKept.{of-kept}
-use Rattle.um_refinement.proofs.Offered.{IsStep, Shows, at-made, behind-is, own-part, own-same, shown-offers}
+use Rattle.um_refinement.proofs.Offered.{IsStep, Shows, at-made, behind-is, own-part, own-same, shown-offers, shows-runs}
+use Rattle.um_refinement.proofs.PlacesFacts.{lies-unslept}
 use Rattle.um_refinement.proofs.RunningPart.{todo-elsewhere}
 use Rattle.um_refinement.proofs.SchedulerSteps.{made-at, sched-else}
+use Rattle.um_refinement.proofs.StepReads.{is-behind, reads-last}
 use Rattle.um_refinement.proofs.Continued.{continues-thread}
 use Rattle.um_order.proofs.ArmingOrder.{Plain}
 use Rattle.um_order.proofs.Follow.{Followed, here}
@@ -180,3 +184,38 @@ module _ (f : Fine) (at : Point) (e : FineStep) (law : Lawful f at.state e) (one
         (line f at e law one orderly s2 t (says_step f.image p (Pending.Continue who) (act_in e.act)) (more_of f.image p (Pending.Continue who)) is-stir (if is_at_rest s2 who.0 then who.0 ∷ [] else [])
         (ap (λ b. roused s2 (Act.Continue who b)) done)
         (if sleeps (joins later) who.0 then who.0 ∷ [] else []) (roused-line later s2 related one who.0 few undoomed not-mine not-new))
+
+  -- it may go on with itself: it doesn't sleep
+  module _ (related : Rel later (T.after at.state (f.processors e.cpu).context.thread x (Pending.Continue who) rest)) (mine : ((f.processors e.cpu).context.thread == who.0) ≡ true) where
+    itself : who.0 ≡ t
+    itself = sym (eqb-true t who.0 mine)
+
+    runs-now : runs now ≡ true
+    runs-now =
+        goes-runs f.image p e (Todo.show (Pending.Continue who) rest) [] list refl ((is-behind f m e law).frame (Todo.show (Pending.Continue who) rest) [] list) (reads-last f m e law (Todo.show (Pending.Continue who) rest) [] list)
+        (subst (AreBlocks f.image) list (law.rel.processors e.cpu law.by.named).blocks) ∙ shows-runs h
+
+    not-over : is_over now.context ≡ false
+    not-over = ap (λ b. now.context.ended && b) (goes-some now.context going-then).0 ∙ by now.context.ended
+      where
+        by : (b : Bool) → (b && false) ≡ false
+        by true = refl
+        by false = refl
+
+    runs-it : runs_on t (later.processors e.cpu) ≡ true
+    runs-it = ap (runs_on t) (here f at e law one orderly) ∙ λ i. (runs-now i && eq-eqb now.context.thread t thread i) && not (not-over i)
+
+    awake : sleeps (joins later) who.0 ≡ false
+    awake =
+        let there = ap one_if runs-it in
+        ap (λ n. is_some (asleep_at (joins later) n)) itself
+        ∙ lies-unslept later s2 related t (subst (λ n. n < THREADS) thread of.index) e.cpu law.by.named (omega (arith, there))
+
+    pub continues-itself : Followed f at e law one orderly (T.after at.state (f.processors e.cpu).context.thread x (Pending.Continue who) rest)
+    continues-itself =
+        let act = says_step f.image p (Pending.Continue who) (act_in e.act) in
+        let more = more_of f.image p (Pending.Continue who) in
+        to-rouses f at e law one orderly s2 t act more is-stir who.0 list-then refl
+        (line f at e law one orderly s2 t act more is-stir []
+        (ap (λ b. roused s2 (Act.Continue who b)) done ∙ ap (λ b. if b then who.0 ∷ [] else []) (ap (is_at_rest s2) itself ∙ not-rests f at e law one orderly s2 t act more is-stir))
+        (if sleeps (joins later) who.0 then who.0 ∷ [] else []) (sym (append-nil (scheduler later).ready) ∙ ap (λ b. (scheduler later).ready ++ (if b then who.0 ∷ [] else [])) (sym awake)))
