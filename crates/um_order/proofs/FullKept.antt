@@ -1,5 +1,5 @@
 -- Every lawful step of the one processor keeps `IsFull`: what its thread has still to pass on or to drop is due.
-use Rattle.std.proofs.Common.{Bool, List, None, Option, Some, [], ap, arith, false, length, map, refl, subst, suc, sym, true, zero, ℕ, ◌+◌, ◌<◌, ◌∙◌, ◌∷◌, ◌≡◌, ◌≢◌, ◌≤◌}
+use Rattle.std.proofs.Common.{Bool, List, None, Option, Some, [], ap, arith, false, length, map, refl, subst, suc, sym, true, zero, ℕ, ◌+◌, ◌<◌, ◌∙◌, ◌∷◌, ◌≡◌, ◌≢◌, ◌≤◌, ◌⊎◌, inl, inr}
 use Rattle.std.proofs.lemmas.Bool.{eqb-false, eqb-true, false≢true, true≢false, not-true}
 use Rattle.std.proofs.lemmas.List.{get_or-set_other, get_or-set_same}
 use Rattle.std.specs.Prelude.{if◌then◌else◌, nat_lt, not, slice_index_or, slice_set, ◌&&◌, ◌==◌, ◌||◌}
@@ -16,7 +16,7 @@ use Rattle.um_base.specs.declared.names.ThreadIx.{ThreadIx}
 use Rattle.um_machine.proofs.EffectLemmas.{effects_of}
 use Rattle.um_machine.specs.Goes.{Next, Way, at_end, gone, went, told_way}
 use Rattle.um_machine.specs.Order.{Steps, end_steps, fatal_steps, steps_of, to_thread}
-use Rattle.um_machine.specs.Run.{MayClean, Offers}
+use Rattle.um_machine.specs.Run.{MayChoose, MayClean, Offers}
 use Rattle.um_machine.specs.State.{State, nobody, pair_at, thread_at, with_pair, with_thread}
 use Rattle.um_machine.specs.Writes.{Edit, Effect, drops as drop_writes, effect, only, was_given, wrote}
 use Rattle.um_machine.specs.declared.pending.Pending.{Pending}
@@ -27,43 +27,43 @@ use Rattle.um_invariants.proofs.ThreadSteps.{plain-steps}
 use Rattle.um_invariants.proofs.ThreadWords.{AreKept, are_plain}
 use Rattle.um_invariants.specs.InOrder.{Point}
 use Rattle.um_words.specs.declared.fine.FineAct.{FineAct}
-use Rattle.um_fine.specs.Answers.{act_in}
-use Rattle.um_fine.specs.Asks.{begins_cleaning}
+use Rattle.um_fine.specs.Answers.{act_in, thread_in}
+use Rattle.um_fine.specs.Asks.{begins_cleaning, says_turn}
 use Rattle.um_fine.specs.Context.{Context, as_thread}
 use Rattle.um_fine.specs.Continues.{came_in, continues, gone_part, resumed, resumed_at}
-use Rattle.um_fine.specs.Follows.{after_show, after_take, dropped_at}
-use Rattle.um_fine.specs.Places.{Todo, Todos}
+use Rattle.um_fine.specs.Follows.{after_show, after_take, dropped_at, shown_step}
+use Rattle.um_fine.specs.Places.{Todo, Todos, put_away}
+use Rattle.um_fine.specs.Scheduler.{is_cut, takes_turn, to_kill, waits}
 use Rattle.um_fine.specs.Steps.{Exchange, FineStep}
-use Rattle.um_refinement.proofs.CallSteps.{Proper}
-use Rattle.um_refinement.proofs.CallsProper.{AreProper}
 use Rattle.um_refinement.proofs.ChildSteps.{Creates, InOrder, order-steps}
 use Rattle.um_refinement.proofs.ChildrenKnown.{AllCreate, Stands, offered-stands}
 use Rattle.um_refinement.proofs.ClaimRoom.{child-claims}
 use Rattle.um_refinement.proofs.CleanSteps.{Calls, OwnRows}
-use Rattle.um_refinement.proofs.ContextsPart.{is_shown, now-context, quiet-context}
+use Rattle.um_refinement.proofs.ContextsPart.{is_shown, is_sleep_step, now-context, quiet-context, ran, take-context}
 use Rattle.um_refinement.proofs.Continued.{continues-thread}
 use Rattle.um_refinement.proofs.DuesFilled.{child-below, created, offers-plain, resumes-plain, still-steps, way-still}
 use Rattle.um_refinement.proofs.Erased.{around}
 use Rattle.um_refinement.proofs.IdleComplete.{one-holds}
-use Rattle.um_refinement.proofs.Leaves.{HasStep, Lawful, Leaves, cleans, drops, event, nothing, passes, recycles, resumes}
+use Rattle.um_refinement.proofs.Leaves.{Beside, HasStep, Lawful, Leaves, beside, cleans, cuts, drops, event, expires, nothing, passes, recycles, resumes, ticks, times_out}
+use Rattle.um_refinement.proofs.Leaves as L
 use Rattle.um_refinement.proofs.ListGrowth.{is_end}
-use Rattle.um_refinement.proofs.ListRuns.{ends-rests}
-use Rattle.um_refinement.proofs.Offered.{Shows, own-part, shown-offers}
-use Rattle.um_refinement.proofs.PartsElsewhere.{taken-parked}
+use Rattle.um_refinement.proofs.ListRuns.{ends-rests, takes-none}
+use Rattle.um_refinement.proofs.Offered.{Shows, by-made, own-part, own-same, own-unless, runs-first, shown-offers, shows-runs}
+use Rattle.um_refinement.proofs.Taking.{Idles as Takes, IsTaken, idles as idles-by, taken-parked, taken-uncut, takes, tends}
 use Rattle.um_refinement.proofs.Reachable.{sound-held}
 use Rattle.um_refinement.proofs.SchedulerSteps.{made-says}
-use Rattle.um_refinement.proofs.StepsLeft.{steps-on}
+use Rattle.um_refinement.proofs.StepsLeft.{is_first, steps-on}
 use Rattle.um_refinement.proofs.ThreadLists.{at-here, dues-long}
-use Rattle.um_refinement.proofs.VisitSteps.{Visits, visit-part}
+use Rattle.um_refinement.proofs.VisitSteps.{Visits, visit-part, visit-runs}
 use Rattle.um_refinement.proofs.WordsKept.{IsShown}
 use Rattle.um_refinement.specs.Dues.{is_visiting}
 use Rattle.um_refinement.specs.Fine.{Fine, scheduler}
-use Rattle.um_refinement.specs.Lists.{has_steps, runs, visited}
-use Rattle.um_refinement.specs.Offers.{Fits, is_over}
+use Rattle.um_refinement.specs.Lists.{has_steps, runs, times, visited}
+use Rattle.um_refinement.specs.Offers.{IsPutBack, is_over}
 use Rattle.um_refinement.specs.Threads.{IsOf, IsRun}
-use Rattle.um_order.proofs.QuietSteps.{is_rest, over-rests, rest-offered}
-use Rattle.um_order.proofs.Standing.{Idles, IsFull}
-use Rattle.um_order.proofs.TakeOrder.{take-opens}
+use Rattle.um_order.proofs.EventLines.{own-is}
+use Rattle.um_order.proofs.QuietSteps.{over-rests}
+use Rattle.um_order.proofs.Standing.{IsFull}
 use Rattle.um_machine.specs.Table as T
 use Rattle.um_machine.specs.Objects as Plain
 use Rattle.um_order.proofs.CleanOrder.{may-clean}
@@ -79,6 +79,10 @@ still-full m t (Pending.Inherit who ∷ rest) h = absurd (true≢false h)
 still-full m t (Pending.Drops from ∷ rest) h = absurd (true≢false h)
 still-full m t (q ∷ rest) h = tt
 
+waits-quiet : (steps : Steps) → waits steps ≡ true → is_visiting steps ≡ false
+waits-quiet (Pending.Resume ∷ rest) h = refl
+waits-quiet steps h = absurd (false≢true h)
+
 abbrev is_begin : Pending → Bool
 is_begin Pending.Begin = true
 is_begin q = false
@@ -87,6 +91,7 @@ is_begin q = false
 abbrev opens_visits : Pending → Bool
 opens_visits (Pending.Own who) = true
 opens_visits Pending.Exit = true
+opens_visits Pending.Killed = true
 opens_visits (Pending.Fatal reason cause) = true
 opens_visits q = false
 
@@ -130,6 +135,12 @@ module _ (image : Image) (c : Context) where
   next-plain (Pending.Drops from) act came shown plain was = absurd shown
   next-plain (Pending.CleanPair who) act came shown plain was = absurd shown
   next-plain Pending.Recycle act came shown plain was = absurd shown
+  next-plain Pending.Killed act came shown plain was = absurd (true≢false plain)
+  next-plain Pending.Left act came shown plain was = absurd shown
+  next-plain Pending.Tick act came shown plain was = absurd shown
+  next-plain (Pending.TimeOut who) act came shown plain was = absurd shown
+  next-plain Pending.Expire act came shown plain was = absurd shown
+  next-plain (Pending.Cut who) act came shown plain was = absurd shown
   next-plain q act came shown plain was = tt
 
   continued-quiet : (q : Pending) (rest : Steps) (act : Act) (moved : Exchange) → IsShown q → opens_visits q ≡ false → (q ≡ Pending.Begin → Quiet c.pending) → are_plain rest ≡ true → InOrder rest
@@ -153,11 +164,22 @@ order-of child (Pending.Inherit who) rest shown plain h = absurd shown
 order-of child (Pending.Drops from) rest shown plain h = absurd shown
 order-of child (Pending.CleanPair who) rest shown plain h = absurd shown
 order-of child Pending.Recycle rest shown plain h = absurd shown
+order-of child Pending.Killed rest shown plain h = absurd (true≢false plain)
+order-of child Pending.Left rest shown plain h = absurd shown
+order-of child Pending.Tick rest shown plain h = absurd shown
+order-of child (Pending.TimeOut who) rest shown plain h = absurd shown
+order-of child Pending.Expire rest shown plain h = absurd shown
+order-of child (Pending.Cut who) rest shown plain h = absurd shown
 order-of child q rest shown plain h = h.1
 
 stands-creates : (m : State) (t x : ℕ) (all : AllCreate m) (q : Pending) (rest : Steps) → IsShown q → Stands m t x all q rest → Creates (thread_at m t).child (q ∷ rest)
 stands-creates m t x all (Pending.CleanPair who) rest shown h = absurd shown
 stands-creates m t x all Pending.Recycle rest shown h = absurd shown
+stands-creates m t x all Pending.Left rest shown h = absurd shown
+stands-creates m t x all Pending.Tick rest shown h = absurd shown
+stands-creates m t x all (Pending.TimeOut who) rest shown h = absurd shown
+stands-creates m t x all Pending.Expire rest shown h = absurd shown
+stands-creates m t x all (Pending.Cut who) rest shown h = absurd shown
 stands-creates m t x all q rest shown h = h
 
 module _ (m : State) (t : ℕ) (few : t < length m.threads) where
@@ -375,9 +397,9 @@ module _ (s : State) (u x : ℕ) (wide : x < length s.pairs) where
 resumed-quiet : (image : Image) (c : Context) (told : Told) (rest : Steps) → are_plain rest ≡ true → InOrder rest → Quiet (resumed_at image c told (Pending.Resume ∷ rest)).pending
 resumed-quiet image c told rest plain order = way-still image c rest (told_way told.reply) plain order
 
-module _ (f : Fine) (at : Point) (e : FineStep) (law : Lawful f at.state e) (one : f.cpus ≡ 1) (kept : AreKept at.state) (orderly : AllCreate at.state) (proper : AreProper at.state.image at.state) (lawful : IsLawful at.state.image)
+module _ (f : Fine) (at : Point) (e : FineStep) (law : Lawful f at.state e) (one : f.cpus ≡ 1) (kept : AreKept at.state) (orderly : AllCreate at.state) (lawful : IsLawful at.state.image)
     (calls : Calls at.state) (own : OwnRows f.image)
-    (idle : (f.processors e.cpu).todo ≡ [] → Idles (f.processors e.cpu) (scheduler f) at)
+    (besides : (t x : ℕ) (q : Pending) → Beside f at.state e t x q → MayChoose at.state t x q → runs (around f e).now ≡ true → IsFull (T.after at.state t x q (thread_at at.state t).pending) (around f e).now.context.thread (around f e).now.context.pending)
     (was : runs (f.processors e.cpu) ≡ true → IsFull at.state (f.processors e.cpu).context.thread (f.processors e.cpu).context.pending) where
   open around f e use {later, processor as p, now}
 
@@ -397,42 +419,68 @@ module _ (f : Fine) (at : Point) (e : FineStep) (law : Lawful f at.state e) (one
   quiet-full quiet on = by p.todo refl
     where
       over : (q : Todo) (todo : Todos) → p.todo ≡ q ∷ todo → is_end q ≡ true → begins_cleaning e ≡ false → ⊥
-      over q todo list ends none = false≢true (sym (ap has_steps (ends-rests f.image p e q todo list ends none)) ∙ on)
+      over q todo list ends none = false≢true (sym (ap (λ (z : Todos). has_steps z && not (times z)) (ends-rests f.image p e q todo list ends none)) ∙ on)
+
+      put-back : (c : Context) → IsPutBack c → is_visiting c.pending ≡ false
+      put-back c (inl none) = ap is_visiting none
+      put-back c (inr waiting) = waits-quiet c.pending waiting
+
+      killed-quiet : (b : Bool) (c : Context) → IsPutBack c → is_visiting (to_kill b c).pending ≡ false
+      killed-quiet true c put = refl
+      killed-quiet false c put = put-back c put
+
+      untold : (first : IsTaken f e) → (o : Option Told) → first.told ≡ o → o ≡ None
+      untold first None h = refl
+      untold first (Some w) h =
+          absurd (true≢false (ap (λ o. is_shown (takes_turn (to_kill (is_cut (scheduler f) first.thread) first.parked) o)) (sym h)
+          ∙ (ap is_shown (sym (first.said ∙ ap (says_turn f.image p) first.moved)) ∙ quiet)))
+
+      taken : p.todo ≡ [] → Takes f e → Full m
+      taken list (takes first) =
+          let c = to_kill (is_cut (scheduler f) first.thread) first.parked in
+          let moved = first.moved ∙ ap (Exchange.thread c) (untold first first.told refl) in
+          carry m c (now-context f m e law [] list ∙ (ap (λ (mv : Exchange). (after_take f.image p mv).context) moved ∙ take-context f.image p c))
+          (still-full m c.thread c.pending (killed-quiet (is_cut (scheduler f) first.thread) first.parked (law.rel.contexts.parked first.thread first.parked first.there).3))
+      taken list (tends is) = absurd (false≢true (sym (takes-none f.image p e list is.other is.quiet) ∙ on))
 
       by : (todo : Todos) → p.todo ≡ todo → Full m
-      by [] list = still-full m now.context.thread now.context.pending (ap is_visiting (take-opens f at e law one orderly (idle list) quiet).rests)
+      by [] list = taken list (idles-by f m e law list)
       by (Todo.park ∷ todo) list = absurd (over Todo.park todo list refl (ap (λ (a : FineAct). begins_cleaning (record e { act = a })) (made-says f m e law (Todo.park ∷ todo) list)))
       by (Todo.done ∷ todo) list = absurd (over Todo.done todo list refl (ap (λ (a : FineAct). begins_cleaning (record e { act = a })) (made-says f m e law (Todo.done ∷ todo) list)))
-      by (q ∷ todo) list = carry m p.context (quiet-context f m e law q todo list refl quiet) (was (ap has_steps list))
+      by (Todo.paid ∷ todo) list = absurd (over Todo.paid todo list refl (ap (λ (a : FineAct). begins_cleaning (record e { act = a })) (made-says f m e law (Todo.paid ∷ todo) list)))
+      by (Todo.sleep ∷ todo) list = subst (λ (z : Context). IsFull m z.thread z.pending) (sym (now-context f m e law (Todo.sleep ∷ todo) list)) tt
+      by (q ∷ todo) list =
+          let kept = quiet-context f m e law q todo list refl refl quiet in
+          subst (λ (z : Context). IsFull m z.thread z.pending) (sym kept.1) (was (ran f m e law q todo list refl on))
 
-  room : has_steps p.todo ≡ true → t < length m.threads
+  room : runs p ≡ true → t < length m.threads
   room on = let many = law.sound.wide.threads in let index = (law.rel.contexts.running e.cpu law.by.named on).index in omega (arith, index, many)
 
   -- an event of a pending step
-  module _ (q : Pending) (rest : Steps) (todo : Todos) (x : ℕ) (h : Shows f m e.cpu e q rest todo) (shown : IsShown q) where
+  module _ (q : Pending) (rest : Steps) (todo : Todos) (x : ℕ) (h : Shows f m e.cpu e q rest todo) (shown : IsShown q) (chosen : MayChoose m t x q) where
     context : now.context ≡ continues f.image p.context 0 q rest (act_in e.act) e.moved
     context =
-        now-context f m e law (Todo.show q rest ∷ todo) h.at
-        ∙ ap (λ b. (if b then record p { todo = Todo.done ∷ [] } else after_show f.image p e q rest todo).context) h.shown
+        now-context f m e law (Todo.show h.listed rest ∷ todo) h.at
+        ∙ (ap (λ b. (if b then record p { todo = put_away (thread_in e.word).doomed } else after_show f.image p e (shown_step f.image h.listed e.act) rest todo).context) h.shown
+        ∙ ap (λ r. (after_show f.image p e r rest todo).context) h.made)
 
     plain-full : opens_visits q ≡ false → IsFull (T.after m t x q rest) now.context.thread now.context.pending
     plain-full plain =
         let steps = offers-plain m kept t q rest shown (shown-offers h) in
-        let order = order-of (thread_at m t).child q rest shown plain (stands-creates m t x orderly q rest shown (offered-stands m t x orderly q rest (shown-offers h))) in
+        let order = order-of (thread_at m t).child q rest shown plain (stands-creates m t x orderly q rest shown (offered-stands m t x orderly q rest chosen (shown-offers h))) in
         still-full (T.after m t x q rest) now.context.thread now.context.pending
         (ap (λ (c : Context). is_visiting c.pending) context
         ∙ continued-quiet f.image p.context q rest (act_in e.act) e.moved shown plain begin steps order)
       where
-        steps-proper : Proper f.image (thread_at m t).checked p.context.pending
-        steps-proper =
-            subst (λ (i : Image). Proper i (thread_at m t).checked p.context.pending) law.rel.image
-            (subst (Proper m.image (thread_at m t).checked) (sym (ap (λ (z : Thread). z.pending) (own-part h).own)) (proper t).0)
-
         -- a thread that begins a line has no step left
         begin : q ≡ Pending.Begin → Quiet p.context.pending
         begin b =
             ap is_visiting
-            (rest-offered f.image (thread_at m t).checked p.context (subst (Fits f.image p.context) h.at (law.rel.processors e.cpu law.by.named).list.fits).0 (ap is_rest b) steps-proper)
+            (by-made h (λ z. is_begin z ≡ true → p.context.pending ≡ []) (λ killed k. h.at_rest (begin-first h.listed k)) (λ killed stopping k. absurd (false≢true k)) (ap is_begin b))
+          where
+            begin-first : (z : Pending) → is_begin z ≡ true → is_first z ≡ true
+            begin-first Pending.Begin k = refl
+            begin-first z k = absurd (false≢true k)
 
     event-full : IsFull (T.after m t x q rest) now.context.thread now.context.pending
     event-full = by q refl
@@ -449,10 +497,11 @@ module _ (f : Fine) (at : Point) (e : FineStep) (law : Lawful f at.state e) (one
         by : (r : Pending) → q ≡ r → IsFull (T.after m t x q rest) now.context.thread now.context.pending
         by (Pending.Own who) w =
             there (Pending.Own who) w
-            (given-full m t (room (ap has_steps h.at)) who rest
-            (stands-creates m t x orderly (Pending.Own who) rest tt (offered-stands m t x orderly (Pending.Own who) rest (subst (λ z. Offers m t z rest) w (shown-offers h)))).1)
-        by Pending.Exit w = there Pending.Exit w (ended-full m t (room (ap has_steps h.at)) (end_steps m.image t (thread_at m t)) [])
-        by (Pending.Fatal reason cause) w = there (Pending.Fatal reason cause) w (fatal-full m t (room (ap has_steps h.at)) f.image p.context reason f.image.policy (fatal_steps m.image t (thread_at m t) reason m.image.policy))
+            (given-full m t (room (shows-runs h)) who rest
+            (stands-creates m t x orderly (Pending.Own who) rest tt (offered-stands m t x orderly (Pending.Own who) rest (subst (MayChoose m t x) w chosen) (subst (λ z. Offers m t z rest) w (shown-offers h)))).1)
+        by Pending.Killed w = there Pending.Killed w (ended-full m t (room (shows-runs h)) (end_steps m.image t (thread_at m t)) [])
+        by Pending.Exit w = there Pending.Exit w (ended-full m t (room (shows-runs h)) (end_steps m.image t (thread_at m t)) [])
+        by (Pending.Fatal reason cause) w = there (Pending.Fatal reason cause) w (fatal-full m t (room (shows-runs h)) f.image p.context reason f.image.policy (fatal_steps m.image t (thread_at m t) reason m.image.policy))
         by r w = plain-full (ap opens_visits w)
 
   -- A permission of a thread is dropped, whose object is cleaned. No thread passes permissions on to that one: its object would be held.
@@ -479,7 +528,7 @@ module _ (f : Fine) (at : Point) (e : FineStep) (law : Lawful f at.state e) (one
 
         held : Plain.is_held m (own_row m.image who) ≡ true
         held =
-            let few = room (ap has_steps h.at) in
+            let few = room (visit-runs h (λ hand. hand)) in
             let at : 0 + t ≡ t = omega arith in
             one-holds m.image (own_row m.image who) 0 m.threads t few
             (subst (λ n. Plain.thread_holds m.image (own_row m.image who) n (thread_at m t) ≡ true) (sym at)
@@ -488,24 +537,27 @@ module _ (f : Fine) (at : Point) (e : FineStep) (law : Lawful f at.state e) (one
     clean-full : Full (T.after m t x (Pending.CleanPair (to_thread who)) rest)
     clean-full = carry s2 p.context (now-context f m e law (Todo.clean_pair who x ∷ todo) h.at) (by (is_over p.context) refl)
       where
-        run : IsRun m p.context
-        run = visit-part h
+        run : IsRun f m p.context
+        run = visit-part h (λ hand. hand)
 
         wide : x < length m.pairs
         wide = let rows = law.sound.wide.rows in let few = h.few in omega (arith, rows, few)
 
         by : (b : Bool) → is_over p.context ≡ b → IsFull s2 t p.context.pending
         by true o = still-full s2 t p.context.pending (ap is_visiting (over-rests p.context o))
-        by false o =
-            let of = run.of o in
-            let pending : p.context.pending ≡ (thread_at m t).pending = ap (λ (z : Thread). z.pending) of.own in
-            let m2 = effect (Effect.object (own_row m.image who) (Edit.cleaned (to_thread t))) m in
-            cleans-full m2 who x wide t p.context.pending (T.dropped m who x) (subst (Creates (thread_at m t).child) (sym pending) (orderly t))
-            (λ w more e. child-apart w more (sym pending ∙ e)) (same-full m m2 t p.context.pending refl refl refl (was (ap has_steps h.at)))
+        by false o = which (waits p.context.pending) refl
+          where
+            which : (w : Bool) → waits p.context.pending ≡ w → IsFull s2 t p.context.pending
+            which true waiting = still-full s2 t p.context.pending (waits-quiet p.context.pending waiting)
+            which false awake =
+                let pending : p.context.pending ≡ (thread_at m t).pending = ap (λ (z : Thread). z.pending) (own-unless (run.of o) awake) in
+                let m2 = effect (Effect.object (own_row m.image who) (Edit.cleaned (to_thread t))) m in
+                cleans-full m2 who x wide t p.context.pending (T.dropped m who x) (subst (Creates (thread_at m t).child) (sym pending) (orderly t))
+                (λ w more e. child-apart w more (sym pending ∙ e)) (same-full m m2 t p.context.pending refl refl refl (was (visit-runs h (λ hand. hand))))
 
   pub full-kept : (s : State) (leaves : Leaves f m e s) → HasStep f m e s leaves → runs now ≡ true → Full s
   full-kept _ (nothing u said) has on = quiet-full (ap is_shown said) on
-  full-kept _ (event q rest todo x h shown is) has on = event-full q rest todo x h shown
+  full-kept _ (event q rest todo x h shown is) has on = event-full q rest todo x h shown is.chosen
   full-kept _ (resumes c told rest list moved said) has on =
       carry (T.after m c.thread 0 Pending.Resume rest) (resumed f.image c told) context
       (still-full (T.after m c.thread 0 Pending.Resume rest) (resumed f.image c told).thread (resumed f.image c told).pending
@@ -514,11 +566,11 @@ module _ (f : Fine) (at : Point) (e : FineStep) (law : Lawful f at.state e) (one
       context : now.context ≡ resumed f.image c told
       context = now-context f m e law [] list ∙ ap (λ z. (after_take f.image p z).context) moved
 
-      of : IsOf m c
-      of = (law.rel.contexts.parked c.thread c (taken-parked f m e law list c (Some told) moved)).0
+      of : IsOf f m c
+      of = (law.rel.contexts.parked c.thread c (taken-parked f m e law list c told moved)).0
 
       pending : (thread_at m c.thread).pending ≡ Pending.Resume ∷ rest
-      pending = sym (ap (λ (z : Thread). z.pending) of.own) ∙ has
+      pending = sym (ap (λ (z : Thread). z.pending) (own-is f m c of (taken-uncut f m e law list c told moved of.index))) ∙ has
 
       plain : are_plain rest ≡ true
       plain = resumes-plain m kept c.thread rest pending
@@ -526,23 +578,24 @@ module _ (f : Fine) (at : Point) (e : FineStep) (law : Lawful f at.state e) (one
       order : InOrder rest
       order = (subst (Creates (thread_at m c.thread).child) pending (orderly c.thread)).1
   full-kept _ (passes who x rest todo h said) has on =
-      let own = subst (λ steps. IsFull m t steps) has (was (ap has_steps h.at)) in
-      let of = (visit-part h).of (steps-on p.context _ _ has) in
-      let machine = sym (ap (λ (z : Thread). z.pending) of.own) ∙ has in
+      let own = subst (λ steps. IsFull m t steps) has (was (visit-runs h (λ hand. hand))) in
+      let of = (visit-part h (λ hand. hand)).of (steps-on p.context _ _ has) in
+      let machine = sym (ap (λ (z : Thread). z.pending) (own-unless of (ap waits has))) ∙ has in
       let low = child-below m law.sound lawful orderly t (to_thread who) rest machine in
       let rows = law.sound.wide.rows in
       let few = h.few in
       let flags = law.sound.wide.flags x h.few in
       carry (T.after m t x (Pending.Inherit (to_thread who)) rest) p.context (now-context f m e law (Todo.pass who x ∷ todo) h.at)
       (subst (λ steps. IsFull (T.after m t x (Pending.Inherit (to_thread who)) rest) t steps) (sym has)
-      (passes-full m t (room (ap has_steps h.at)) (to_thread who) x rest rest (omega (arith, rows, few)) (omega (arith, flags, low)) own))
+      (passes-full m t (room (visit-runs h (λ hand. hand))) (to_thread who) x rest rest (omega (arith, rows, few)) (omega (arith, flags, low)) own))
   full-kept _ (drops from x rest todo h said) has on =
-      let own = subst (λ steps. IsFull m t steps) has (was (ap has_steps h.at)) in
-      let least = (law.rel.processors e.cpu law.by.named).dues.drops from rest (ap has_steps h.at) has in
+      let own = subst (λ steps. IsFull m t steps) has (was (visit-runs h (λ hand. hand))) in
+      let least = (law.rel.processors e.cpu law.by.named).dues.drops from rest (visit-runs h (λ hand. hand)) has in
       let is : visited p.todo ≡ x = ap visited h.at in
       carry (T.after m t x (Pending.Drops from) rest) (dropped_at f.image p.context x false) (now-context f m e law (Todo.drop x ∷ todo) h.at ∙ ap (dropped_at f.image p.context x) h.shown)
-      (drops-full m t (room (ap has_steps h.at)) x from rest [] own (omega (arith, least, is)))
+      (drops-full m t (room (visit-runs h (λ hand. hand))) x from rest [] own (omega (arith, least, is)))
   full-kept _ (cleans who x rest todo h said) has on = clean-full who x rest todo h
   full-kept _ (recycles x rest todo list few said chosen) has on =
       carry (T.after m t x Pending.Recycle rest) p.context (now-context f m e law (Todo.recycle x ∷ todo) list)
-      (same-full m (T.after m t x Pending.Recycle rest) t p.context.pending refl refl refl (was (ap has_steps list)))
+      (same-full m (T.after m t x Pending.Recycle rest) t p.context.pending refl refl refl (was (runs-first law.rel law.by.named (Todo.recycle x) todo list (λ hand. hand))))
+  full-kept _ (beside t x q how chosen started) has on = besides t x q how chosen on
