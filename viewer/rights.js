@@ -34,7 +34,7 @@ class Rights {
     this.noteUse(trace, k, kind);
     switch (kind) {
       case "start": return this.compareThread(state, trace.peer[k], k);
-      case "user": case "exit": case "fatal": return this.compareThread(state, trace.who[k], k);
+      case "user": case "exit": case "fatal": case "killed": return this.compareThread(state, trace.who[k], k);
       case "domain": return this.noteDomain(state, trace.row[k], trace.peer[k], k);
       case "born": case "recycle": case "public": return this.compareObject(state, trace.objectRow(k), k);
       case "drop": return trace.verdictWord(k) === "gone" ? this.compareObject(state, trace.objectRow(k), k) : undefined;
@@ -49,9 +49,11 @@ class Rights {
       noteDone(this.didName, trace.row[k] * THREADS + who, "", k);
     }
     const right = RIGHT_OF_KIND[kind];
-    const isDone = right && (verdict === "" || verdict === "ok" || verdict === "number");
+    const isDone = right && DONE_VERDICTS.has(verdict);
     const region = isDone ? this.regionAt(trace.addr[k]) : undefined;
     if (region) noteDone(this.didReach, this.regions.indexOf(region) * THREADS + who, right, k);
+    const futex = isDone && kind === "futex" ? this.futexAt(trace.addr[k]) : undefined;
+    if (futex) noteDone(this.didReach, this.regions.indexOf(futex) * THREADS + who, right, k);
   }
 
   noteDomain(state, domain, moved, k) {
@@ -112,10 +114,15 @@ class Rights {
   regionAt(address) {
     return this.regions.find(({ start, size }) => address >= start && address < start + size);
   }
+
+  futexAt(address) {
+    return this.regions.find(({ what, start }) => what === "futex" && start === address);
+  }
 }
 
-// The right that an event uses where it isn't refused.
-const RIGHT_OF_KIND = { load: "r", store: "w", exec: "x", copyin: "r", copystr: "r", copyout: "w" };
+// The right that an event uses where it isn't refused, and what it says then.
+const RIGHT_OF_KIND = { load: "r", store: "w", exec: "x", copyin: "r", copystr: "r", copyout: "w", futex: "r" };
+const DONE_VERDICTS = new Set(["", "ok", "number", "wait", "EAGAIN", "ETIMEDOUT"]);
 
 // Notes what holds from event k on, and, where it is another than before, event k as one that changed it. `could` gets what
 // held at some time, from the first event behind which it did to the last one.
