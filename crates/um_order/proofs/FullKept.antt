@@ -246,7 +246,7 @@ dropped-else s u x v y Leftover.Kept ne =
 dropped-else s u x v y Leftover.Gone ne =
     record { pair = pair-else s u x v y false ne; due = due-else x y 0 _ s.threads v ne; long = dues-long x 0 (slice_index_or (with_pair s u x false).pairs x []) s.threads }
 
-same-full : (m s : State) (t : ℕ) (steps : Steps) → s.pairs ≡ m.pairs → s.threads ≡ m.threads → s.image ≡ m.image → IsFull m t steps → IsFull s t steps
+pub same-full : (m s : State) (t : ℕ) (steps : Steps) → s.pairs ≡ m.pairs → s.threads ≡ m.threads → s.image ≡ m.image → IsFull m t steps → IsFull s t steps
 same-full m s t steps pairs threads image h =
     subst (λ (z : List (List Bool) × List Thread × Image). IsFull (record s { pairs = z.0; threads = z.1; image = z.2 }) t steps) (λ i. (sym pairs i, sym threads i, sym image i)) (there steps h)
   where

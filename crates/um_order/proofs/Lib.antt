@@ -33,5 +33,6 @@ mod TickOrder
 mod HandOrder
 mod Reserves
 mod FullKept
+mod BesideFull
 mod OneStep
 mod OneRuns
