@@ -3,9 +3,13 @@
 --
 -- Standing: how the processor and the scheduler's cell relate to the point; ArmingOrder: how the marks of the clock do. FirstPoint: they do so at
 -- the opening. CleanNow: when no cleaning step is lawful. ReadyLines: lists of threads. ListShapes: the processor's list of steps after a step;
--- ListCalm: which kinds of steps are on it, and whom it cuts. EventLines: the ready list after an event. QuietSteps: steps that show no event. Follow: what makes an event follow. NextSteps and Reserves: it is its thread's next step, with
--- the least row. ShowSteps, VisitOrder, CleanOrder and TakeOrder: the events of pending steps, of permissions that are inherited or dropped,
--- of cleanings, and of threads that are taken from the ready list. FullKept: which permissions stay due. OneStep: any step. OneRuns: runs.
+-- ListCalm: which kinds of steps are on it, and whom it cuts. EventLines: the ready list after an event; RousedLines: where one is roused.
+--
+-- Steps that show no event: QuietSteps, of a turn that has begun; TakeSteps, of threads that are taken and put away, and of marks that are given; LookSteps,
+-- of looks and rouses, with the cut. Follow: what makes an event follow. NextSteps and Reserves: it is its thread's next step, with the least row. The events:
+-- ShowSteps, of pending steps, and ArmOrder, of deadlines; StirOrder, StopOrder and AbortOrder, of those that stop or continue a thread; LeaveOrder, of an end
+-- that is told; VisitOrder and CleanOrder, of permissions and cleanings; TakeOrder, of woken threads; TickOrder and HandOrder, of time. FullKept and BesideFull:
+-- which permissions stay due. OneStep: any step; OneKept: what goes along; OneRuns: runs.
 mod CleanNow
 mod ArmingOrder
 mod Standing
@@ -35,4 +39,5 @@ mod Reserves
 mod FullKept
 mod BesideFull
 mod OneStep
+mod OneKept
 mod OneRuns
