@@ -9,7 +9,7 @@
 -- of looks and rouses, with the cut. Follow: what makes an event follow. NextSteps and Reserves: it is its thread's next step, with the least row. The events:
 -- ShowSteps, of pending steps, and ArmOrder, of deadlines; StirOrder, StopOrder and AbortOrder, of those that stop or continue a thread; LeaveOrder, of an end
 -- that is told; VisitOrder and CleanOrder, of permissions and cleanings; TakeOrder, of woken threads; TickOrder and HandOrder, of time. FullKept and BesideFull:
--- which permissions stay due. OneStep: any step; OneKept: what goes along; OneRuns: runs.
+-- which permissions stay due. Settled: all marks are, where the processor has no list. OneStep: any step; OneKept: what goes along; OneRuns: runs.
 mod CleanNow
 mod ArmingOrder
 mod Standing
@@ -36,6 +36,7 @@ mod TakeOrder
 mod TickOrder
 mod HandOrder
 mod Reserves
+mod Settled
 mod FullKept
 mod BesideFull
 mod OneStep

@@ -1,5 +1,5 @@
 -- With each lawful step of the one processor its event follows, or the point stays.
-use Rattle.std.proofs.Common.{◌≡◌, ◌⊎◌, inl, inr, ℕ, ◌<◌, Bool, true, false, [], ◌∷◌, Option, Some, None, refl, sym, ap, ◌∙◌, subst}
+use Rattle.std.proofs.Common.{◌≡◌, ◌⊎◌, inl, inr, ℕ, ◌<◌, Bool, true, false, [], ◌∷◌, Option, Some, None, refl, sym, ap, ◌∙◌, subst, arith}
 use Rattle.std.specs.Prelude.{◌==◌, IsTrue, if◌then◌else◌, is_some}
 use Rattle.std.specs.List.{list_all}
 use Rattle.std.proofs.lemmas.Bool.{false≢true, true≢false}
@@ -64,6 +64,7 @@ use Rattle.um_order.proofs.LeaveOrder.{leave-follows}
 use Rattle.um_order.proofs.NextSteps.{ChoosesLeast}
 use Rattle.um_order.proofs.QuietSteps.{quiet-begun}
 use Rattle.um_order.proofs.Reserves.{chooses-least}
+use Rattle.um_order.proofs.Settled.{idle-settled}
 use Rattle.um_order.proofs.ShowSteps.{shown-begun, shown-opens, stirs}
 use Rattle.um_order.proofs.Standing.{Begun, Holds, Idles, IsAway, IsFull, Looks, Opens, Pays, PutsAway, Stands, away, begun, gives_up, goes, holds, idles, is_calm, is_show, looks, looks_again, opens, pays, puts_to_sleep, rouses}
 use Rattle.um_order.proofs.StopOrder.{continue-follows, continues-itself}
@@ -122,8 +123,6 @@ module _ (f : Fine) (at : Point) (e : FineStep) (law : Lawful f at.state e) (one
   pub record Known : Type 0 where
     pub chosen : IsChosen f e
     pub full : runs p ≡ true → IsFull at.state p.context.thread p.context.pending
-    -- one processor settles each mark within the turn that armed it
-    pub settled : p.todo ≡ [] → AreSettled (clock f).marks
     -- nobody is aborted between the two readings of its word behind a wait
     pub calm_word : (site : ℕ) (todo : Todos) → p.todo ≡ Todo.reread site ∷ todo → (thread_in e.word).aborted ≡ false
     -- a look finds who waits, and a mark in the hand whom it is for
@@ -148,13 +147,19 @@ module _ (f : Fine) (at : Point) (e : FineStep) (law : Lawful f at.state e) (one
         → Holds p (scheduler f) (clock f).marks at → Followed f at e law one orderly s2
     pub hand_void : (deadline : ℕ) (mark : Mark) (todo : Todos) → p.todo ≡ Todo.handle deadline mark ∷ todo → is_void e.act ≡ true → (a : Arming) → IsArmed deadline mark a → makes_step at.state a ≡ false
 
+  -- it settles each mark within the turn that armed it
+  settled-idle : p.todo ≡ [] → AreSettled (clock f).marks
+  settled-idle list =
+      let first : e.cpu ≡ 0 = (let l = law.by.named in omega (arith, l, one)) in
+      idle-settled f m law.rel one (ap (λ k. (f.processors k).todo) (sym first) ∙ list)
+
   stays : Stands now (scheduler later) (joins later) (clock later).marks at → (act : FineAct) → e.act ≡ act → is_shown act ≡ false → Followed f at e law one orderly at.state
   stays st (FineAct.Shown said more) is quiet = absurd (true≢false quiet)
   stays st (FineAct.Unseen u) is quiet = record { point = at; follows = subst (λ a. FollowsBy at a at) (sym is) refl; state = refl; stands = st }
 
   -- a step that shows no event
   quiet-next : Known → is_shown e.act ≡ false → Stands p (scheduler f) (joins f) (clock f).marks at → Stands now (scheduler later) (joins later) (clock later).marks at
-  quiet-next known quiet (idles was) = by (idle-on f at e law was quiet known.chosen (known.settled was.list))
+  quiet-next known quiet (idles was) = by (idle-on f at e law was quiet known.chosen (settled-idle was.list))
     where
       by : Opens now (scheduler later) (clock later).marks at ⊎ Holds now (scheduler later) (clock later).marks at → Stands now (scheduler later) (joins later) (clock later).marks at
       by (inl is) = opens is
@@ -505,7 +510,7 @@ module _ (f : Fine) (at : Point) (e : FineStep) (law : Lawful f at.state e) (one
         by (expires deadline x todo list few said) chosen started l r t =
             known.hand_follows deadline (Mark.Timer x) todo _ list (ap is_void said) l r bounded (handling deadline (Mark.Timer x) todo list st)
         by (ticks list said) chosen started l r t =
-            tick-follows f at e law one orderly (is-idle list st) (ap is_tick said) known.chosen (known.settled list) (known.last_tick (ap is_tick said)) chosen started
+            tick-follows f at e law one orderly (is-idle list st) (ap is_tick said) known.chosen (settled-idle list) (known.last_tick (ap is_tick said)) chosen started
         by (L.leaves todo list said) chosen started l r t =
             leave-follows f at e law one orderly proper (has-begun Todo.leave todo list refl st) todo list said r t bounded
             (known.full (runs-first law.rel law.by.named Todo.leave todo list (λ hand. hand)))
