@@ -18,6 +18,8 @@ pub mod NamedThreads
 pub mod LeftKnown
 pub mod SitesThere
 pub mod CleaningsFew
+pub mod RousesKept
+pub mod RousesKnown
 pub mod MomentsKnown
 pub mod Refusals
 pub mod SitesSet

@@ -19,7 +19,7 @@ use Rattle.um_core.proofs.OneRun.{one-run}
 
 -- The steps of a fine run, taken apart.
 module _ (image : Image) (cpus : ℕ) where
-  fine-less : (done : List FineStep) (e : FineStep) → IsFineRun image cpus (done ++ e ∷ []) → IsFineRun image cpus done × MayFollow image cpus done e
+  pub fine-less : (done : List FineStep) (e : FineStep) → IsFineRun image cpus (done ++ e ∷ []) → IsFineRun image cpus done × MayFollow image cpus done e
   fine-less done e run =
       let a = runs_pop same_cpu (λ k. eq-eqb k k refl) (λ j k h. eqb-true j k h) cpu_of (ByOneOf image cpus) (p_next image) p_start done e run.processors in
       let b = runs_pop same_site same-itself same-sound site_of (SiteMay image) (s_next image) (s_start image) done e run.sites in
