@@ -16,7 +16,6 @@ use Rattle.um_machine.specs.Table as T
 use Rattle.um_invariants.specs.Armings.{Arming, makes_step}
 use Rattle.um_invariants.specs.InOrder.{Point}
 use Rattle.um_invariants.specs.NextSteps.{IsLeast}
-use Rattle.um_invariants.specs.Ready.{is_at_rest}
 use Rattle.um_invariants.proofs.ThreadWords.{AreKept}
 use Rattle.um_words.specs.declared.fine.FineAct.{FineAct}
 use Rattle.um_words.specs.declared.fine.Mark.{Mark}
@@ -62,6 +61,7 @@ use Rattle.um_order.proofs.HandOrder.{hold-void, pays-on}
 use Rattle.um_order.proofs.LookSteps.{cut-follows, look-void, rouse-on}
 use Rattle.um_order.proofs.LeaveOrder.{leave-follows}
 use Rattle.um_order.proofs.NextSteps.{ChoosesLeast}
+use Rattle.um_order.proofs.NotedBusy.{abort-busy}
 use Rattle.um_order.proofs.QuietSteps.{quiet-begun}
 use Rattle.um_order.proofs.Reserves.{chooses-least}
 use Rattle.um_order.proofs.Settled.{idle-settled}
@@ -132,11 +132,9 @@ module _ (f : Fine) (at : Point) (e : FineStep) (law : Lawful f at.state e) (one
         → goes (continues f.image p.context 0 q rest (act_in e.act) e.moved).pending ≡ true
     pub stir_who : (q : Pending) (rest : Steps) (todo : Todos) (x u : ℕ) → Shows f at.state e.cpu e q rest todo → stirred q ≡ Some u
         → (u < THREADS) × ((thread_at (T.after at.state p.context.thread x q rest) u).doomed ≡ false)
-    -- who is aborted waits only with a note, and is at rest only without one
+    -- who is aborted waits only with a note
     pub abort_idle : (who : ThreadIx) (rest : Steps) (todo : Todos) (x : ℕ) → Shows f at.state e.cpu e (Pending.Abort who) rest todo → (thread_in e.word).note ≡ None
         → is_waiting (thread_at (T.after at.state p.context.thread x (Pending.Abort who) rest) who.0) ≡ false
-    pub abort_busy : (who : ThreadIx) (rest : Steps) (todo : Todos) (x site : ℕ) → Shows f at.state e.cpu e (Pending.Abort who) rest todo → (thread_in e.word).note ≡ Some site
-        → is_at_rest (T.after at.state p.context.thread x (Pending.Abort who) rest) who.0 ≡ false
     -- a join that says that its thread is no longer joined has the least row
     pub join_least : (who : ThreadIx) (timeout : Timeout) (rest : Steps) (todo : Todos) (x : ℕ) → Shows f at.state e.cpu e (Pending.Join who timeout) rest todo → IsStep f at.state e.cpu e x (Pending.Join who timeout)
         → IsLeast at.state p.context.thread (Pending.Join who timeout) x
@@ -282,7 +280,7 @@ module _ (f : Fine) (at : Point) (e : FineStep) (law : Lawful f at.state e) (one
         by false other None note =
             aborts-rouses f at e law one orderly suits all was who rest todo x h is done full going related whom.0 whom.1 other note (known.abort_idle who rest todo x h note)
         by false other (Some site) note =
-            aborts-looks f at e law one orderly suits all was who rest todo x h is done full going related whom.0 whom.1 other site note (known.abort_busy who rest todo x site h note)
+            aborts-looks f at e law one orderly suits all was who rest todo x h is done full going related whom.0 whom.1 other site note (abort-busy f m e who rest todo _ site law h whom.0 related note)
     stir-follows q rest todo x h is done related full was = absurd (false≢true done)
 
     -- what is first on the list of a processor

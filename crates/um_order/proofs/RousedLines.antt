@@ -35,7 +35,7 @@ occurs-stands t (x ∷ xs) h = by (t == x) h (occurs-stands t xs)
     by true h more = refl
     by false h more = more h
 
-none-left : (steps : Steps) → (length steps == 0) ≡ true → steps ≡ []
+pub none-left : (steps : Steps) → (length steps == 0) ≡ true → steps ≡ []
 none-left [] h = refl
 none-left (q ∷ steps) h = absurd (false≢true (sym (some (length steps)) ∙ h))
   where
