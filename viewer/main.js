@@ -302,7 +302,9 @@ class Page {
       button.disabled = counts[group] === 0;
       button.setAttribute("aria-pressed", String(!this.timeline.hidden.has(group)));
       button.addEventListener("click", () => this.toggleGroup(group, button));
-      return wrapped("li", button);
+      const entry = wrapped("li", button);
+      entry.hidden = GROUPS[group].isOptional === true && counts[group] === 0;
+      return entry;
     }));
   }
 

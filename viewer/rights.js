@@ -7,6 +7,7 @@ class Rights {
     this.description = description;
     // The rows of the memory part of the matrix. Partitions that a script names by numbers come behind the others.
     this.regions = [...description.regions];
+    this.futexes = this.regions.filter(({ what }) => what === "futex");
     // By row and thread, and by region and thread: the events that changed the right, in their order.
     this.ofPairs = new Map();
     this.ofRegions = new Map();
@@ -49,11 +50,11 @@ class Rights {
       noteDone(this.didName, trace.row[k] * THREADS + who, "", k);
     }
     const right = RIGHT_OF_KIND[kind];
-    const isDone = right && DONE_VERDICTS.has(verdict);
-    const region = isDone ? this.regionAt(trace.addr[k]) : undefined;
-    if (region) noteDone(this.didReach, this.regions.indexOf(region) * THREADS + who, right, k);
-    const futex = isDone && kind === "futex" ? this.futexAt(trace.addr[k]) : undefined;
-    if (futex) noteDone(this.didReach, this.regions.indexOf(futex) * THREADS + who, right, k);
+    if (!right || !DONE_VERDICTS.has(verdict)) return;
+    const reached = this.futexes.filter((futex) => touches(trace, k, futex));
+    const region = this.regionAt(trace.addr[k]);
+    if (region) reached.push(region);
+    for (const one of reached) noteDone(this.didReach, this.regions.indexOf(one) * THREADS + who, right, k);
   }
 
   noteDomain(state, domain, moved, k) {
@@ -113,10 +114,6 @@ class Rights {
   // The region that has an address, if any.
   regionAt(address) {
     return this.regions.find(({ start, size }) => address >= start && address < start + size);
-  }
-
-  futexAt(address) {
-    return this.regions.find(({ what, start }) => what === "futex" && start === address);
   }
 }
 

@@ -1,6 +1,7 @@
 "use strict";
 // The groups that events are drawn in, each with a colour and a shape of its own, so that neither is needed alone.
-// Their order is that of their weight: where there is no room for all, the last one is drawn.
+// Their order is that of their weight: where there is no room for all, the last one is drawn. The legend has an optional one
+// only where a run has events of it.
 
 const GROUPS = [
   { name: "line", label: "line", title: "A line of a script begins", shape: tick },
@@ -14,11 +15,14 @@ const GROUPS = [
   { name: "taken", label: "permission taken", title: "A permission is taken", shape: minus },
   { name: "domain", label: "domain", title: "A call on a domain", shape: house },
   { name: "thread", label: "start, user, exit", title: "A thread starts, becomes a user or exits", shape: flag },
-  { name: "time", label: "time", title: "A deadline is armed, virtual time goes on, or a timer runs out", shape: clock },
+  { name: "time", label: "time", title: "A deadline is armed, virtual time goes on, or a timer runs out", shape: clock, isOptional: true },
   { name: "wait", label: "wait", title: "A thread begins to wait", shape: hourglass },
+  { name: "timeout", label: "timed out", title: "A wait ends at its deadline", shape: hollowHourglass, isOptional: true },
   { name: "recycle", label: "gone, recycled", title: "An object is gone, or recycled", shape: crossedRing },
-  { name: "timeout", label: "timed out", title: "A wait ends at its deadline", shape: hollowHourglass },
-  { name: "stopped", label: "stopped", title: "A thread is suspended, resumed, aborted, cut or killed", shape: barredDisc },
+  {
+    name: "stopped", label: "stopped", title: "A thread is suspended, resumed, aborted, cut or killed", shape: barredDisc,
+    isOptional: true,
+  },
   { name: "refused", label: "refused", title: "A check, a copy or a look at a futex that is refused", shape: downTriangle },
   { name: "doom", label: "doom", title: "A thread index is doomed", shape: hollowOctagon },
   { name: "fault", label: "fault", title: "A fault", shape: cross },

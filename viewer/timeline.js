@@ -6,6 +6,7 @@ const LABEL_WIDTH = 116;
 const AXIS_HEIGHT = 26;
 const TIME_HEIGHT = 20;
 const LEAST_LANE_WITH_WORDS = 30;
+const LEAST_WORD = 20;
 const HATCH = 9;
 const MOST_SCALE = 48;
 const SEPARATE_MARKS = 7;
@@ -221,7 +222,7 @@ class Timeline {
     context.textAlign = "left";
   }
 
-  // A dashed line where virtual time goes on, with the tick that it goes on to.
+  // A dashed line where virtual time goes on, with the tick that it goes on to. Where many share the pixels, some have it.
   drawTime() {
     const { ticks } = this.run;
     if (ticks.length === 0 || this.isHidden("time")) return;
@@ -230,7 +231,9 @@ class Timeline {
     context.fillStyle = context.strokeStyle = colours.colour("mark-time");
     context.lineWidth = 1;
     context.setLineDash([4, 3]);
-    let lastX = -10;
+    let [lastX, free] = [-10, LABEL_WIDTH];
+    const isDense = this.scale < SEPARATE_MARKS;
+    const top = isDense ? this.lanesTop : AXIS_HEIGHT;
     const from = firstAtLeast(ticks, this.first);
     const seen = [ticks[from - 1] ?? { event: 0, time: 0 }, ...ticks.slice(from, firstAtLeast(ticks, this.last + 1))];
     seen.forEach(({ event, time }, place) => {
@@ -238,14 +241,16 @@ class Timeline {
       if (x - lastX < 3) return;
       lastX = x;
       if (event > 0 && x >= LABEL_WIDTH) {
-        path(context, [[x, AXIS_HEIGHT], [x, this.overviewTop - 6]]);
+        path(context, [[x, top], [x, this.overviewTop - 6]]);
         context.stroke();
       }
       const left = Math.max(LABEL_WIDTH, x) + 3;
-      const right = place + 1 < seen.length ? this.x(seen[place + 1].event) + 1 : Infinity;
+      const next = place + 1 < seen.length && !isDense ? this.x(seen[place + 1].event) + 1 : Infinity;
+      const right = left < free ? left : next;
       const label = [`tick ${time}`, String(time)].find((text) => context.measureText(text).width <= right - left) ?? "";
       const { width } = context.measureText(label);
       context.fillText(label, left + width > this.width ? x - 3 - width : left, y);
+      if (label) free = left + width + 6;
       this.drawn.ticks.push({ event, time, x, label });
     });
     context.setLineDash([]);
@@ -296,6 +301,11 @@ class Timeline {
   drawStop(from, to, y, word) {
     const { context, colours, laneHeight } = this;
     const [top, bottom] = [y - laneHeight / 2 + 1, y + laneHeight / 2 - 1];
+    if (to - from < HATCH) {
+      context.fillStyle = colours.colour("stopped");
+      context.fillRect(from, top, to - from, bottom - top);
+      return;
+    }
     context.save();
     context.beginPath();
     context.rect(from, top, to - from, bottom - top);
@@ -320,11 +330,12 @@ class Timeline {
 
   // A small word in a lane, where it fits between two places.
   drawWord(word, from, to, y, { ink, paper }) {
+    if (this.laneHeight < LEAST_LANE_WITH_WORDS || to - from < LEAST_WORD) return;
     const { context, colours } = this;
     const { font } = context;
     context.font = "10px system-ui, sans-serif";
     const { width } = context.measureText(word);
-    if (this.laneHeight >= LEAST_LANE_WITH_WORDS && width <= to - from) {
+    if (width <= to - from) {
       context.fillStyle = colours.colour(paper);
       context.fillRect(from - 1, y - 5, width + 2, 10);
       context.fillStyle = colours.colour(ink);
@@ -393,7 +404,7 @@ class Timeline {
     context.bezierCurveTo(bow, y + way * 10, bow, end - way * 16, x + 3, end - way * 8);
     context.stroke();
     filled(context, [[x, end - way], [x - 2.5, end - way * 10], [x + 7.5, end - way * 8]]);
-    this.drawn.arrows.push({ event, from, to, x, y, end });
+    this.drawn.arrows.push({ event, from, to, group, x, y, end });
   }
 
   drawMarks() {
