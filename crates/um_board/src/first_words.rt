@@ -7,15 +7,13 @@ ghost use Rattle.um_words.specs.Steps.{number};
 ghost use Rattle.um_opening.specs.Opened.{AreDomains, AreRows, AreThreads};
 ghost use Rattle.um_board.specs.Opening.{AreOpening, IsFirstWord};
 
+use crate::places::SCHEDULER;
 use std::alloc::Global;
 use um_base::{Image, OutOfMemory};
 use um_words::{CellWord, DomWord, RowWord, ThreadWord};
 
 /// How many words a board has.
 const WORDS: u16 = 309;
-
-/// The site of the scheduler.
-const SCHEDULER: u16 = 306;
 
 /// The word of a row.
 fn row_word(image: &Image, rows: &[RowWord], row: u16) -> u64

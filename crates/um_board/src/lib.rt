@@ -11,6 +11,7 @@ mod kind;
 mod looks;
 mod next_step;
 mod object_room;
+mod places;
 mod seated;
 mod sites;
 

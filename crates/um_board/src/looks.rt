@@ -12,8 +12,8 @@ ghost use Rattle.um_board.specs.{
 };
 
 use crate::object_room::ObjectRoom;
+use crate::places::{JOINS, MEMORY, OBJECTS_FROM};
 use crate::seated::Seated;
-use crate::sites::{JOINS, MEMORY, OBJECTS_FROM};
 use std::marker::Brand;
 use um_base::Row;
 use um_tables::{Bytes, Here, Joins, Look, Said};

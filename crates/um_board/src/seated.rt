@@ -24,6 +24,7 @@ use crate::contents::{Contents, Counts};
 use crate::fine::{AsMade, Fine};
 use crate::kind::Kind;
 use crate::next_step::NextStep;
+use crate::places::SCHEDULER;
 use std::snapshot::Snapshot;
 use um_base::{Event, Image};
 use um_cell::{Cells, Held};
@@ -34,9 +35,6 @@ use um_words::{CellWord, step_number};
 
 /// The greatest step number: there a cell takes no step.
 const LAST: u32 = 0xfff_ffff;
-
-/// The site of the scheduler.
-const SCHEDULER: u16 = 306;
 
 /// A processor's place at a board: its seat, and the log of the steps that it made, in reserved room.
 #[derive(Drop)]

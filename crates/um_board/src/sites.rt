@@ -1,6 +1,9 @@
 //! The sites of a board, as a processor shares them with others.
 
 use crate::object_room::ObjectRoom;
+use crate::places::{
+    CLOCK, DOMAINS_FROM, HEAP, JOINS, MEMORY, OBJECTS_FROM, PARTS_FROM, SCHEDULER, THREADS_FROM,
+};
 use crate::seated::Seated;
 use std::marker::Brand;
 use std::snapshot::Snapshot;
@@ -15,26 +18,6 @@ use um_tables::{
 use um_words::{
     CellWord, DomWord, DomainAct, Mark, RowAct, RowSaid, RowWord, ThreadAct, ThreadWord,
 };
-
-/// The sites of the cells of memory, of the heap, of the scheduler, of the clock and of the joins.
-pub(crate) const MEMORY: u16 = 304;
-
-const HEAP: u16 = 305;
-
-const SCHEDULER: u16 = 306;
-
-const CLOCK: u16 = 307;
-
-pub(crate) const JOINS: u16 = 308;
-
-/// The first sites of the other sorts. Rows begin at site 0.
-const THREADS_FROM: u16 = 128;
-
-const DOMAINS_FROM: u16 = 160;
-
-pub(crate) const OBJECTS_FROM: u16 = 168;
-
-const PARTS_FROM: u16 = 296;
 
 impl Sites for Seated<'_> {
     ghost use Rattle.std.specs.Prelude.{◌≡◌};
