@@ -13,7 +13,7 @@ use Rattle.um_refinement.specs.Room.{CanRun}
 use Rattle.um_processor.specs.declared.phase.Turn.{Turn}
 use Rattle.um_processor.specs.Idles.{is_turn}
 use Rattle.um_processor.specs.Processors.{IsStuck}
-use Rattle.um_tables.specs.Asked.{AsksFor}
+use Rattle.um_processor.specs.Wants.{Wants}
 use Rattle.um_tables.specs.Sited.{IsFull, IsShut, WasMade, state_at}
 use Rattle.um_core.specs.Cores.{Core, Stands}
 use Rattle.um_core.specs.PickedRun.{IsNext, behind}
@@ -33,7 +33,7 @@ processor_at core k = slice_index_or core.processors k idle
 
 -- A step that this processor asks for is refused by its site.
 pub record IsRefused (image : Image) (core : Core) (k : ℕ) (e : FineStep) : Type 0 where
-  pub asks : AsksFor k image (processor_at core k) e
+  pub asks : Wants k image (processor_at core k) e
   pub shut : IsShut image (state_at core.sites e.site) e
 
 -- A processor has no step that it could ask for, or there is no room for an event.
@@ -68,7 +68,7 @@ pub data WasChosen (image : Image) (core : Core) (k : ℕ) (made : FineStep) : T
 -- A processor makes its next step, which is chosen, and its site takes it.
 pub record Steps (image : Image) (k : ℕ) (old new : Core) : Type 0 where
   pub made : FineStep
-  pub asks : AsksFor k image (processor_at old k) made
+  pub asks : Wants k image (processor_at old k) made
   pub taken : WasMade image old.sites made new.sites
   pub leaves : new.processors ≡ slice_set old.processors k (p_next image (processor_at old k) made)
   pub chosen : WasChosen image old k made
