@@ -8,7 +8,7 @@
 -- Steps that show no event: QuietSteps, of a turn that has begun; TakeSteps, of threads that are taken and put away, and of marks that are given; LookSteps,
 -- of looks and rouses, with the cut. Follow: what makes an event follow. NextSteps and Reserves: it is its thread's next step, with the least row. The events:
 -- ShowSteps, of pending steps, and ArmOrder, of deadlines; StirOrder, StopOrder and AbortOrder, of those that stop or continue a thread (NotedBusy: one with a note isn't at rest); LeaveOrder, of an end
--- that is told; VisitOrder and CleanOrder, of permissions and cleanings; TakeOrder, of woken threads; TickOrder and HandOrder, of time. FullKept and BesideFull:
+-- that is told; VisitOrder and CleanOrder, of permissions and cleanings; TakeOrder, of woken threads; TickOrder, HandOrder and TimedOutOrder, of time. FullKept and BesideFull:
 -- which permissions stay due. Settled: all marks are, where the processor has no list. OneStep: any step; OneKept: what goes along; OneRuns: runs.
 mod CleanNow
 mod ArmingOrder
@@ -36,6 +36,7 @@ mod TakeSteps
 mod TakeOrder
 mod TickOrder
 mod HandOrder
+mod TimedOutOrder
 mod Reserves
 mod Settled
 mod FullKept

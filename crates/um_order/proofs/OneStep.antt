@@ -70,6 +70,7 @@ use Rattle.um_order.proofs.Standing.{Begun, Holds, Idles, IsAway, IsFull, Looks,
 use Rattle.um_order.proofs.StopOrder.{continue-follows, continues-itself}
 use Rattle.um_order.proofs.TakeSteps.{away-on, idle-on, opens-on}
 use Rattle.um_order.proofs.TakeOrder.{resume-follows}
+use Rattle.um_order.proofs.TimedOutOrder.{expire-follows, timed-out-follows}
 use Rattle.um_order.proofs.TickOrder.{tick-follows}
 use Rattle.um_order.proofs.VisitOrder.{drop-follows, fits-drop, fits-pass, pass-follows}
 
@@ -139,10 +140,7 @@ module _ (f : Fine) (at : Point) (e : FineStep) (law : Lawful f at.state e) (one
     pub join_least : (who : ThreadIx) (timeout : Timeout) (rest : Steps) (todo : Todos) (x : ℕ) → Shows f at.state e.cpu e (Pending.Join who timeout) rest todo → IsStep f at.state e.cpu e x (Pending.Join who timeout)
         → IsLeast at.state p.context.thread (Pending.Join who timeout) x
     -- the thread by which the processor makes the events of time made the last event
-    pub last_tick : is_tick e.act ≡ true → at.last ≡ Some (to_thread (actor_or f.image p.actor))
-    -- a mark in the hand whose step is made: its event follows
-    pub hand_follows : (deadline : ℕ) (mark : Mark) (todo : Todos) (s2 : State) → p.todo ≡ Todo.handle deadline mark ∷ todo → is_void e.act ≡ false → Leaves f at.state e s2 → Rel later s2 → AreBounded later
-        → Holds p (scheduler f) (clock f).marks at → Followed f at e law one orderly s2
+    pub last_time : (is_tick e.act ≡ true) ⊎ (handles_first p.todo ≡ true) → at.last ≡ Some (to_thread (actor_or f.image p.actor))
     pub hand_void : (deadline : ℕ) (mark : Mark) (todo : Todos) → p.todo ≡ Todo.handle deadline mark ∷ todo → is_void e.act ≡ true → (a : Arming) → IsArmed deadline mark a → makes_step at.state a ≡ false
 
   -- it settles each mark within the turn that armed it
@@ -504,11 +502,11 @@ module _ (f : Fine) (at : Point) (e : FineStep) (law : Lawful f at.state e) (one
             → Followed f at e law one orderly (T.after m p.context.thread x (Pending.Cut (to_thread n)) (thread_at m p.context.thread).pending)) found.1
             (λ said chosen. cut-follows f at e law found.0 one orderly kept x said chosen) said chosen
         by (times_out deadline site x who todo list same few said) chosen started l r t =
-            known.hand_follows deadline (Mark.Thread who site) todo _ list (ap is_void said) l r bounded (handling deadline (Mark.Thread who site) todo list st)
+            timed-out-follows f at e law one orderly kept (handling deadline (Mark.Thread who site) todo list st) deadline site x who todo list same few said chosen started (known.last_time (inr (ap handles_first list))) r bounded
         by (expires deadline x todo list few said) chosen started l r t =
-            known.hand_follows deadline (Mark.Timer x) todo _ list (ap is_void said) l r bounded (handling deadline (Mark.Timer x) todo list st)
+            expire-follows f at e law one orderly kept suits.waits (handling deadline (Mark.Timer x) todo list st) deadline x todo list said chosen started (known.last_time (inr (ap handles_first list))) r bounded
         by (ticks list said) chosen started l r t =
-            tick-follows f at e law one orderly (is-idle list st) (ap is_tick said) known.chosen (settled-idle list) (known.last_tick (ap is_tick said)) chosen started
+            tick-follows f at e law one orderly (is-idle list st) (ap is_tick said) known.chosen (settled-idle list) (known.last_time (inl (ap is_tick said))) chosen started
         by (L.leaves todo list said) chosen started l r t =
             leave-follows f at e law one orderly proper (has-begun Todo.leave todo list refl st) todo list said r t bounded
             (known.full (runs-first law.rel law.by.named Todo.leave todo list (λ hand. hand)))

@@ -1,4 +1,4 @@
--- The end of a wait follows, whose mark is in the hand.
+-- The end of a wait follows, whose mark is in the hand; and so does the expiry of a timer.
 use Rattle.std.proofs.Common.{◌≡◌, ◌⊎◌, ℕ, ◌+◌, ◌<◌, Bool, true, false, List, [], ◌∷◌, Option, Some, None, refl, sym, ap, ◌∙◌, subst, eqb-true, eq-eqb}
 use Rattle.std.specs.Prelude.{◌==◌, ◌&&◌, is_some}
 use Rattle.std.proofs.lemmas.Bool.{and_from, and_parts, false≢true}
@@ -17,6 +17,7 @@ use Rattle.um_invariants.specs.InOrder.{Makes, Point}
 use Rattle.um_invariants.proofs.ThreadWords.{AreKept}
 use Rattle.um_words.specs.declared.fine.FineAct.{FineAct}
 use Rattle.um_words.specs.declared.fine.Mark.{Mark}
+use Rattle.um_fine.specs.Addresses.{address_of}
 use Rattle.um_fine.specs.Answers.{act_in, woken_in}
 use Rattle.um_fine.specs.Asks.{begins_cleaning, by_actor}
 use Rattle.um_fine.specs.Places.{Todo, Todos}
@@ -31,13 +32,15 @@ use Rattle.um_refinement.proofs.Bounds.{AreBounded}
 use Rattle.um_refinement.proofs.ChildrenKnown.{AllCreate}
 use Rattle.um_refinement.proofs.Erased.{around}
 use Rattle.um_refinement.proofs.Leaves.{Lawful}
+use Rattle.um_refinement.proofs.SearchSteps.{expire-says}
 use Rattle.um_refinement.proofs.SchedulerSteps.{made-at, made-moves}
 use Rattle.um_refinement.proofs.TimeoutPart.{site-once}
-use Rattle.um_refinement.proofs.WaitersFound.{cell-found, found-stands, waiter-below}
+use Rattle.um_refinement.proofs.WaitersFound.{WaitersWait, cell-found, found-stands, waiter-below}
 use Rattle.um_refinement.proofs.CellSites.{site-of-cell}
 use Rattle.um_order.proofs.ArmingOrder.{IsAim, IsArmed}
 use Rattle.um_order.proofs.Follow.{Followed}
 use Rattle.um_order.proofs.HandOrder.{hold-follows}
+use Rattle.um_order.proofs.ShowSteps.{told-numbers}
 use Rattle.um_order.proofs.Standing.{Holds, woken_of}
 use Rattle.um_refinement.proofs.ListWakes.{named}
 use Rattle.um_fine.specs.Follows.{told_marked}
@@ -119,3 +122,47 @@ module _ (f : Fine) (at : Point) (e : FineStep) (law : Lawful f at.state e) (one
   timed-out-follows related bounded =
       hold-follows f at e law one was orderly s2 (Act.TimedOut who) said related bounded (ap (λ (a : FineAct). begins_cleaning (record e { act = a })) said) last refl
       (sym (ap (λ (k : Mark). woken_of (named (told_marked k (woken_in (act_in e.act))))) mark-is)) on made
+
+-- The expiry of a timer follows, whose mark is in the hand.
+module _ (f : Fine) (at : Point) (e : FineStep) (law : Lawful f at.state e) (one : f.cpus ≡ 1) (orderly : AllCreate at.state) (kept : AreKept at.state) (waiting : WaitersWait at.state)
+    (was : Holds (f.processors e.cpu) (scheduler f) (clock f).marks at)
+    (deadline : ℕ) (x : Row) (todo : Todos) (list : (f.processors e.cpu).todo ≡ Todo.handle deadline (Mark.Timer x) ∷ todo)
+    (said : e.act ≡ by_actor f.image (f.processors e.cpu) (Act.Expire (address_of f.image x.0) (woken_in (act_in e.act)))) (chosen : MayChoose at.state (actor_or f.image (f.processors e.cpu).actor) x.0 Pending.Expire)
+    (started : is_started (thread_at at.state (actor_or f.image (f.processors e.cpu).actor)).life ≡ true) (last : at.last ≡ Some (to_thread (actor_or f.image (f.processors e.cpu).actor))) where
+  open around f e use {later, processor as p, now}
+
+  timer-is : was.mark ≡ Mark.Timer x
+  unfolding hand_mark
+  timer-is = ap hand_mark (sym was.list ∙ list)
+
+  timer-of : (aim : Aim) → IsAim (Mark.Timer x) aim → aim ≡ timer x.0
+  timer-of (timer y) h = ap timer (sym h)
+  timer-of (waiter t c) h = absurd h
+
+  runs-aim : (a : Arming) → IsArmed was.deadline was.mark a → a.aim ≡ timer x.0
+  runs-aim a armed = timer-of a.aim (subst (λ (k : Mark). IsAim k a.aim) timer-is armed.aim_is)
+
+  runs-on : (a : Arming) → IsArmed was.deadline was.mark a → makes_step at.state a ≡ true
+  runs-on a armed = ap (λ (aim : Aim). makes_step at.state (record { deadline = a.deadline; aim = aim })) (runs-aim a armed) ∙ chosen
+
+  abbrev expired : State
+  expired = T.after at.state (actor_or f.image p.actor) x.0 Pending.Expire (thread_at at.state (actor_or f.image p.actor)).pending
+
+  says-so : Act.Expire (address_of f.image x.0) (woken_in (act_in e.act)) ≡ T.act_of at.state (actor_or f.image p.actor) x.0 Pending.Expire
+  says-so = λ i. Act.Expire (address_of (sym law.rel.image i) x.0) (sym (expire-says f at.state law.rel waiting kept.many e.cpu law.by.named e law.by.may law.taken deadline x todo list said) i)
+
+  expires-made : (a : Arming) → IsArmed was.deadline was.mark a
+      → Makes at.state (record { thread = to_thread (actor_or f.image p.actor); act = Act.Expire (address_of f.image x.0) (woken_in (act_in e.act)) }) expired (late_step a.aim) (late_cell a.aim)
+  expires-made a armed =
+      subst (λ (aim : Aim). Makes at.state (record { thread = to_thread (actor_or f.image p.actor); act = Act.Expire (address_of f.image x.0) (woken_in (act_in e.act)) }) expired (late_step aim) (late_cell aim)) (sym (runs-aim a armed))
+      (record {
+        made = record { step = Pending.Expire; rest = (thread_at at.state (actor_or f.image p.actor)).pending; row = x.0; offered = tends refl started; chosen = chosen; says = says-so; leaves = refl };
+        is = refl;
+        at = refl;
+      })
+
+  pub expire-follows : Rel later (T.after at.state (actor_or f.image (f.processors e.cpu).actor) x.0 Pending.Expire (thread_at at.state (actor_or f.image (f.processors e.cpu).actor)).pending) → AreBounded later
+      → Followed f at e law one orderly (T.after at.state (actor_or f.image (f.processors e.cpu).actor) x.0 Pending.Expire (thread_at at.state (actor_or f.image (f.processors e.cpu).actor)).pending)
+  expire-follows related bounded =
+      hold-follows f at e law one was orderly expired (Act.Expire (address_of f.image x.0) (woken_in (act_in e.act))) said related bounded (ap (λ (a : FineAct). begins_cleaning (record e { act = a })) said) last refl
+      (told-numbers (woken_in (act_in e.act)) ∙ sym (ap (λ (k : Mark). woken_of (named (told_marked k (woken_in (act_in e.act))))) timer-is)) runs-on expires-made
