@@ -78,6 +78,10 @@ pub due-no-tick : (act : FineAct) → is_due_act act ≡ true → is_tick act �
 due-no-tick (FineAct.Shown event more) h = absurd (false≢true h)
 due-no-tick (FineAct.Unseen unseen) h = refl
 
+pub tick-no-due : (act : FineAct) → is_tick act ≡ true → is_due_act act ≡ false
+tick-no-due (FineAct.Shown event more) h = refl
+tick-no-due (FineAct.Unseen unseen) h = absurd (false≢true h)
+
 pub both-alike : (e g : FineStep) (due tick : Bool) → is_due_act e.act ≡ due → is_due_act g.act ≡ due → is_tick e.act ≡ tick → is_tick g.act ≡ tick → AreAlike e g
 both-alike e g due tick h k l m = record { due = h ∙ sym k; tick = l ∙ sym m }
 

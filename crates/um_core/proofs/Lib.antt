@@ -28,6 +28,7 @@ pub mod CoreRefusals
 pub mod LogRoom
 mod OrderLemmas
 pub mod Picked
+pub mod ChoiceKnown
 pub mod CoreExact
 pub mod CoreTurns
 pub mod CoreRuns
