@@ -6,6 +6,7 @@ use Rattle.um_machine.specs.State.{State}
 use Rattle.um_fine.specs.Answers.{is_due_act, is_tick}
 use Rattle.um_fine.specs.Asks.{made_by}
 use Rattle.um_fine.specs.FineRun.{IsFineRun}
+use Rattle.um_fine.specs.Places.{Todos}
 use Rattle.um_fine.specs.Processor.{Processor}
 use Rattle.um_fine.specs.Scheduler.{Scheduler}
 use Rattle.um_fine.specs.Steps.{FineStep, Site}
@@ -13,7 +14,8 @@ use Rattle.um_refinement.specs.After.{left_by}
 use Rattle.um_refinement.specs.Choice.{IsChosen}
 use Rattle.um_refinement.specs.Fine.{Fine, scheduler, scheduler_state}
 use Rattle.um_refinement.proofs.ErasedRuns.{no-steps, none-or-some}
-use Rattle.um_core.specs.CoreSteps.{GoesOn, Halts, HasNone, IsCoreOf, IsRefused, LetsStand, Steps, Tends, WasChosen, processor_at, scheduler_there}
+use Rattle.um_refinement.specs.Lists.{has_steps}
+use Rattle.um_core.specs.CoreSteps.{GoesOn, Halts, HasNone, IsCoreOf, IsRefused, LetsStand, StandsStill, Steps, Tends, WasChosen, processor_at, scheduler_there}
 use Rattle.um_core.specs.CoreSteps as C
 use Rattle.um_core.specs.Cores.{Core, Stands}
 use Rattle.um_core.specs.PickedRun.{MayFollow, NoneIsNext, processor_after}
@@ -70,9 +72,12 @@ module _ (image : Image) (cpus : ℕ) (done : List FineStep) (core : Core) (is :
         }
 
   was-chosen : (m : State) → IsLeft f m → (made : FineStep) → made_by image (processor_at core k) made ≡ made → WasChosen image core k made → IsChosen f made
-  was-chosen m left made makes (C.busy some) = untimed-chosen made (listed-untimed image (processor_at core k) some made makes)
-  was-chosen m left made makes (C.takes turn) = untimed-chosen made (turn-untimed made.act turn)
-  was-chosen m left made makes (C.tends e empty turn refused tends) = tends-chosen m left empty e (turn-untimed e.act turn) refused made tends
+  was-chosen m left made makes (C.turns passes) = by (processor_at core k).todo refl
+    where
+      by : (todo : Todos) → (processor_at core k).todo ≡ todo → IsChosen f made
+      by [] at = untimed-chosen made (turn-untimed made.act (passes at))
+      by (q ∷ todo) at = untimed-chosen made (listed-untimed image (processor_at core k) (λ none. true≢false (ap has_steps (sym at ∙ none))) made makes)
+  was-chosen m left made makes (C.tends e empty turn tends) = tends-chosen m left empty e (turn-untimed e.act (turn.0 empty)) turn.1 made tends
 
   -- an image without objects has no step
   none-first : length image.objects ≡ 0 → (e : FineStep) → MayFollow image cpus done e → ⊥
@@ -86,32 +91,35 @@ module _ (image : Image) (cpus : ℕ) (done : List FineStep) (core : Core) (is :
   goes-on new step =
       record {
         made = step.made;
-        maker = step.asks.maker;
+        maker = step.makes.asks.maker;
         next = record { follows = may-follow; chosen = by (none-or-some (length image.objects)) };
-        stands = subst (λ (q : Core). Stands image cpus (done ++ step.made ∷ []) q) (λ i. record { sites = new.sites; processors = sym step.leaves i })
-            (steps-on image cpus is.described is.can done core is.stands k l step.made step.asks new.sites step.taken);
+        stands = subst (λ (q : Core). Stands image cpus (done ++ step.made ∷ []) q) (λ i. record { sites = new.sites; processors = sym step.makes.leaves i })
+            (steps-on image cpus is.described is.can done core is.stands k l step.made step.makes.asks new.sites step.makes.taken);
       }
     where
       may-follow : MayFollow image cpus done step.made
-      may-follow = follows image cpus is.described is.can done core is.stands k l step.made step.asks new.sites step.taken
+      may-follow = follows image cpus is.described is.can done core is.stands k l step.made step.makes.asks new.sites step.makes.taken
 
       by : (length image.objects ≡ 0) ⊎ (0 < length image.objects) → IsChosen f step.made
       by (inl none) = absurd (none-first none step.made may-follow)
       by (inr some) =
-          let left = left-some image cpus is.described is.can some done is.stands.run in was-chosen left.0 left.1 step.made step.asks.makes step.chosen
+          let left = left-some image cpus is.described is.can some done is.stands.run in was-chosen left.0 left.1 step.made step.makes.asks.makes step.chosen
 
   -- One that halts has no step that is next.
 
   lets-none : (g : FineStep) → g.cpu ≡ k → LetsStand image core k → is_due_act g.act ≡ true → MayFollow image cpus done g → ⊥
-  lets-none g same (C.runs e due refused running) h may = none-shut e refused true false due (due-no-tick e.act due) g same h (due-no-tick g.act h) may
-  lets-none g same (C.waits e x due refused tick shut) h may = none-shut e refused true false due (due-no-tick e.act due) g same h (due-no-tick g.act h) may
-  lets-none g same (C.none has) h may = nothing-left has g same may
+  lets-none g same (C.LetsStand.waits e due refused stands) h may = none-shut e refused true false due (due-no-tick e.act due) g same h (due-no-tick g.act h) may
+  lets-none g same (C.LetsStand.none has) h may = nothing-left has g same may
+
+  still-none : (g : FineStep) → g.cpu ≡ k → StandsStill image core k → is_tick g.act ≡ true → (scheduler f).running ≡ 0 → MayFollow image cpus done g → ⊥
+  still-none g same (C.StandsStill.runs running) h still may =
+      let is-same = ap (λ (s : Scheduler). s.running) same-scheduler in omega (arith, running, is-same, still)
+  still-none g same (C.StandsStill.waits x tick shut) h still may = none-shut x shut false true (tick-no-due x.act tick) tick g same (tick-no-due g.act h) h may
+  still-none g same (C.StandsStill.none has) h still may = nothing-left has g same may
 
   stands-none : (g : FineStep) → g.cpu ≡ k → LetsStand image core k → is_tick g.act ≡ true → (scheduler f).running ≡ 0 → MayFollow image cpus done g → ⊥
-  stands-none g same (C.runs e due refused running) h still may =
-      let is-same = ap (λ (s : Scheduler). s.running) same-scheduler in omega (arith, running, is-same, still)
-  stands-none g same (C.waits e x due refused tick shut) h still may = none-shut x shut false true (tick-no-due x.act tick) tick g same (tick-no-due g.act h) h may
-  stands-none g same (C.none has) h still may = nothing-left has g same may
+  stands-none g same (C.LetsStand.waits e due refused stands) h still may = still-none g same stands h still may
+  stands-none g same (C.LetsStand.none has) h still may = nothing-left has g same may
 
   pub halts-none : Halts image core k → NoneIsNext image cpus done k
   halts-none (C.refused e some refused) g same next =
@@ -119,10 +127,10 @@ module _ (image : Image) (cpus : ℕ) (done : List FineStep) (core : Core) (is :
       let here : (processor_after image done k).todo ≢ [] = λ none. some (ap (λ (q : Processor). q.todo) (is-p image cpus is.described is.can done core is.stands k l) ∙ none) in
       let other = listed-untimed image (processor_after image done k) here g (may image cpus done k g same next.follows).makes in
       none-shut e refused false false one.0 one.1 g same other.0 other.1 next.follows
-  halts-none (C.idles e empty turn refused lets) g same next = by (is_due_act g.act) (is_tick g.act) refl refl
+  halts-none (C.idles e empty turn lets) g same next = by (is_due_act g.act) (is_tick g.act) refl refl
     where
       by : (due tick : Bool) → is_due_act g.act ≡ due → is_tick g.act ≡ tick → ⊥
-      by false false h n = let plain = turn-untimed e.act turn in none-shut e refused false false plain.0 plain.1 g same h n next.follows
+      by false false h n = let plain = turn-untimed e.act (turn.0 empty) in none-shut e turn.1 false false plain.0 plain.1 g same h n next.follows
       by true tick h n = lets-none g same lets h next.follows
       by false true h n = stands-none g same lets n (next.chosen.tick n).2 next.follows
-  halts-none (C.none has) g same next = nothing-left has g same next.follows
+  halts-none (C.Halts.none has) g same next = nothing-left has g same next.follows

@@ -13,7 +13,8 @@ use Rattle.um_fine.proofs.FineRuns.{by_last, runs_pop}
 use Rattle.um_fine.proofs.Keys.{same-itself, same-sound}
 use Rattle.rand_pcg.specs.Pcg.{pcg32}
 use Rattle.um_core.specs.Order.{drawn_from, round_from, seeded}
-use Rattle.um_refinement.specs.Choice.{AreChosen, AreChosenBehind}
+use Rattle.um_refinement.specs.After.{left_by}
+use Rattle.um_refinement.specs.Choice.{AreChosen, AreChosenBehind, IsChosen}
 use Rattle.um_core.specs.PickedRun.{ArePicked, IsNext, IsOver, IsPicked, IsPickedRun, MayFollow}
 use Rattle.um_core.proofs.OneRun.{one-run}
 
@@ -33,6 +34,13 @@ module _ (image : Image) (cpus : ℕ) where
 
   follows-in : (done : List FineStep) (e : FineStep) (rest : List FineStep) → IsFineRun image cpus (done ++ e ∷ rest) → MayFollow image cpus done e
   follows-in done e rest run = (fine-less done e (fine-first (done ++ e ∷ []) rest (subst (IsFineRun image cpus) (sym (append_assoc done (e ∷ []) rest)) run))).1
+
+-- one more step is chosen behind others
+pub chosen-more : (image : Image) (cpus : ℕ) (done steps : List FineStep) (e : FineStep) → AreChosenBehind image cpus done steps → IsChosen (left_by image cpus (done ++ steps)) e
+    → AreChosenBehind image cpus done (steps ++ e ∷ [])
+chosen-more image cpus done [] e all last = (subst (λ d. IsChosen (left_by image cpus d) e) (append-nil done) last, tt)
+chosen-more image cpus done (x ∷ steps) e all last =
+    (all.0, chosen-more image cpus (done ++ x ∷ []) steps e all.1 (subst (λ d. IsChosen (left_by image cpus d) e) (sym (append_assoc done (x ∷ []) steps)) last))
 
 module _ (image : Image) where
   -- the one processor is picked, whichever is preferred

@@ -3,6 +3,7 @@ use Rattle.std.specs.Prelude.{◌≡◌, ◌≢◌, ℕ, ◌<◌, ◌≤◌, Boo
 use Rattle.um_base.specs.declared.image.Image.{Image}
 use Rattle.um_base.specs.Weight.{weight}
 use Rattle.um_invariants.specs.Described.{IsDescribed}
+use Rattle.um_words.specs.declared.fine.FineAct.{FineAct}
 use Rattle.um_fine.specs.Answers.{is_due_act, is_tick}
 use Rattle.um_fine.specs.Follows.{p_next}
 use Rattle.um_fine.specs.Processor.{Processor, idle}
@@ -41,37 +42,72 @@ pub data HasNone (image : Image) (core : Core) (k : ℕ) : Type 0 where
   stuck : IsStuck image (processor_at core k) → HasNone image core k
   full : IsFull core.sites → HasNone image core k
 
--- Why a processor without a thread, where none is ready, doesn't tend to time: no mark is due, and a thread runs or no deadline is to come.
-pub data LetsStand (image : Image) (core : Core) (k : ℕ) : Type 0 where
-  runs : (e : FineStep) → is_due_act e.act ≡ true → IsRefused image core k e → 0 < (scheduler_there core).running → LetsStand image core k
-  waits : (e g : FineStep) → is_due_act e.act ≡ true → IsRefused image core k e → is_tick g.act ≡ true → IsRefused image core k g → LetsStand image core k
-  none : HasNone image core k → LetsStand image core k
+-- Of a processor without a thread, the act of a step passes a test.
+abbrev pub Passes : (FineAct → Bool) → Core → ℕ → FineStep → Type 0
+Passes test core k e = (processor_at core k).todo ≡ [] → test e.act ≡ true
 
--- A processor makes no step now: its site refuses the one that it asks for; or it has no thread, none is ready, and it lets time stand; or it
--- has no step that it could ask for.
-pub data Halts (image : Image) (core : Core) (k : ℕ) : Type 0 where
-  refused : (e : FineStep) → (processor_at core k).todo ≢ [] → IsRefused image core k e → Halts image core k
-  idles : (e : FineStep) → (processor_at core k).todo ≡ [] → is_turn e.act ≡ true → IsRefused image core k e → LetsStand image core k → Halts image core k
-  none : HasNone image core k → Halts image core k
+-- A processor makes a step, and its site takes it.
+pub record Makes (image : Image) (k : ℕ) (made : FineStep) (old new : Core) : Type 0 where
+  pub asks : Wants k image (processor_at old k) made
+  pub taken : WasMade image old.sites made new.sites
+  pub leaves : new.processors ≡ slice_set old.processors k (p_next image (processor_at old k) made)
+
+-- What comes of a turn of a processor; of one without a thread, for a step that passes a test.
+abbrev pub HasTurned : (FineAct → Bool) → Turn → Image → ℕ → Core → Core → Type 0
+HasTurned test Turn.Made image k old new = (e : FineStep) × Passes test old k e × Makes image k e old new
+HasTurned test Turn.Busy image k old new = (e : FineStep) × (new ≡ old) × Passes test old k e × IsRefused image old k e
+HasTurned test turn image k old new = (new ≡ old) × HasNone image old k
+
+abbrev pub IsTurnRefused : Image → Core → ℕ → FineStep → Type 0
+IsTurnRefused image core k e = Passes is_turn core k e × IsRefused image core k e
+
+-- Why a processor without a thread doesn't let time go on: a thread runs, or no deadline is to come.
+pub data StandsStill (image : Image) (core : Core) (k : ℕ) : Type 0 where
+  runs : 0 < (scheduler_there core).running → StandsStill image core k
+  waits : (e : FineStep) → is_tick e.act ≡ true → IsRefused image core k e → StandsStill image core k
+  none : HasNone image core k → StandsStill image core k
+
+-- What comes of it, by whether time went on.
+abbrev pub HasPassed : Bool → Image → ℕ → Core → Core → Type 0
+HasPassed true image k old new = (e : FineStep) × ((scheduler_there old).running ≡ 0) × Makes image k e old new
+HasPassed false image k old new = (new ≡ old) × StandsStill image old k
+
+-- Why one, where no thread is ready, doesn't tend to time: no mark is due, and time stands still.
+pub data LetsStand (image : Image) (core : Core) (k : ℕ) : Type 0 where
+  waits : (e : FineStep) → is_due_act e.act ≡ true → IsRefused image core k e → StandsStill image core k → LetsStand image core k
+  none : HasNone image core k → LetsStand image core k
 
 -- How a step that tends to time was chosen: it gives a mark; or none is due, and no thread runs.
 pub data Tends (image : Image) (core : Core) (k : ℕ) (made : FineStep) : Type 0 where
   gives : is_due_act made.act ≡ true → Tends image core k made
   passes : (e : FineStep) → is_due_act e.act ≡ true → IsRefused image core k e → (scheduler_there core).running ≡ 0 → Tends image core k made
 
--- How the step of a processor was chosen: the processor has a thread; or it takes one; or none is ready, and it tends to time.
+abbrev pub HasTended : Bool → Image → ℕ → Core → Core → Type 0
+HasTended true image k old new = (e : FineStep) × Tends image old k e × Makes image k e old new
+HasTended false image k old new = (new ≡ old) × LetsStand image old k
+
+-- A processor makes no step now: its site refuses the one that it asks for; or it has no thread, none is ready, and it lets time stand; or it
+-- has no step that it could ask for.
+pub data Halts (image : Image) (core : Core) (k : ℕ) : Type 0 where
+  refused : (e : FineStep) → (processor_at core k).todo ≢ [] → IsRefused image core k e → Halts image core k
+  idles : (e : FineStep) → (processor_at core k).todo ≡ [] → IsTurnRefused image core k e → LetsStand image core k → Halts image core k
+  none : HasNone image core k → Halts image core k
+
+-- How the step of a processor was chosen: it has a thread, or takes one that is ready; or none is ready, and it tends to time.
 pub data WasChosen (image : Image) (core : Core) (k : ℕ) (made : FineStep) : Type 0 where
-  busy : (processor_at core k).todo ≢ [] → WasChosen image core k made
-  takes : is_turn made.act ≡ true → WasChosen image core k made
-  tends : (e : FineStep) → (processor_at core k).todo ≡ [] → is_turn e.act ≡ true → IsRefused image core k e → Tends image core k made → WasChosen image core k made
+  turns : Passes is_turn core k made → WasChosen image core k made
+  tends : (e : FineStep) → (processor_at core k).todo ≡ [] → IsTurnRefused image core k e → Tends image core k made → WasChosen image core k made
 
 -- A processor makes its next step, which is chosen, and its site takes it.
 pub record Steps (image : Image) (k : ℕ) (old new : Core) : Type 0 where
   pub made : FineStep
-  pub asks : Wants k image (processor_at old k) made
-  pub taken : WasMade image old.sites made new.sites
-  pub leaves : new.processors ≡ slice_set old.processors k (p_next image (processor_at old k) made)
+  pub makes : Makes image k made old new
   pub chosen : WasChosen image old k made
+
+-- By whether it makes one: it does, or it halts and the core is as before.
+abbrev pub HasMoved : Bool → Image → ℕ → Core → Core → Type 0
+HasMoved true image k old new = Steps image k old new
+HasMoved false image k old new = (new ≡ old) × Halts image old k
 
 -- The first processor that doesn't halt steps, from this one on.
 pub record FirstSteps (image : Image) (first : ℕ) (old new : Core) : Type 0 where
