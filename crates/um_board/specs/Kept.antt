@@ -1,5 +1,5 @@
 -- What is kept in a cell of a board, as contents of a cell of the fine machine, and the room that there is for it.
-use Rattle.std.specs.Prelude.{ℕ, ◌≤◌, IfSome, None, Option, Some}
+use Rattle.std.specs.Prelude.{ℕ, ◌<◌, IfSome, None, Option, Some}
 use Rattle.um_base.specs.Weight.{weight}
 use Rattle.um_base.specs.declared.image.Image.{Image}
 use Rattle.um_fine.specs.Cells.{Cell}
@@ -21,6 +21,6 @@ abbrev pub room_of : Kept → Option ℕ
 room_of (Kept.Clock clock) = Some clock.value.most
 room_of kept = None
 
--- where a clock is kept, there is room for as many marks as the image's weight
+-- where a clock is kept, there is room for more marks than the image's weight
 abbrev pub HasRoom : Image → Option ℕ → Type 0
-HasRoom image room = IfSome room (λ most. weight image ≤ most)
+HasRoom image room = IfSome room (λ most. weight image < most)

@@ -68,7 +68,7 @@ pub data OthersAt (s t : Seat Known) (i : ℕ) : Type 0 where
   moved : (w z : ℕ) → Got s t i w → Got s t i z → z ≢ w → OthersAt s t i
 
 -- Why no step was made at the site i: others were there; the log is full; the word that stood there can't be read; or the word doesn't
--- count what the cell's contents count, or has counted as many steps as it can; or the clock has as many marks as the image's weight, or
+-- count what the cell's contents count, or has counted as many steps as it can; or the clock has more marks than the image's weight, or
 -- 2^28 - 1. All but the first never happen to a processor of a described image.
 pub data Hinders (room : ℕ) (log : List Logged) (s t : Seat Known) (i : ℕ) : Type 0 where
   others : OthersAt s t i → Hinders room log s t i
@@ -76,4 +76,4 @@ pub data Hinders (room : ℕ) (log : List Logged) (s t : Seat Known) (i : ℕ) :
   no_thread : (n w : ℕ) → n < 32 → i ≡ 128 + n → SawAt s i w → thread_of w ≡ None → Hinders room log s t i
   no_domain : (d w : ℕ) → d < 8 → i ≡ 160 + d → SawAt s i w → domain_of w ≡ None → Hinders room log s t i
   worn : (w : ℕ) (c : Known) → 168 ≤ i → SawCell s i w c → ((n : ℕ) → n < 268435455 → cell_of w ≢ cell_word c.cell n) → Hinders room log s t i
-  crowded : (w : ℕ) (image : Image) (c : Clock) → i ≡ site_number Site.clock → SawCell s i w (known image (Cell.clock c)) → (weight image ≤ length c.marks) ⊎ (268435455 ≤ length c.marks) → Hinders room log s t i
+  crowded : (w : ℕ) (image : Image) (c : Clock) → i ≡ site_number Site.clock → SawCell s i w (known image (Cell.clock c)) → (weight image < length c.marks) ⊎ (268435455 ≤ length c.marks) → Hinders room log s t i

@@ -42,7 +42,7 @@ const NONE: Counts = Counts {
     owed: 0,
 };
 
-/// What a cell of an image's board keeps. A clock has room for as many marks as the image's weight. The image is ghost data.
+/// What a cell of an image's board keeps. A clock has room for more marks than the image's weight. The image is ghost data.
 #[derive(Drop)]
 pub struct Contents {
     image: Snapshot<Image>,

@@ -1,6 +1,6 @@
 //! The board of an image as it stands at the opening.
 
-ghost use Rattle.std.specs.Prelude.{◌≡◌, ◌≤◌, IfOk};
+ghost use Rattle.std.specs.Prelude.{◌≡◌, ◌<◌, IfOk};
 ghost use Rattle.um_base.specs.{Lawful.{IsLawful}, Weight.{weight}};
 ghost use Rattle.um_board.specs.{Opening.{AreOpening, IsFirst}, Seated.{IsSeated}};
 
@@ -21,14 +21,14 @@ const FIRST_CELL: u16 = 168;
 const CELLS: u32 = 141;
 
 /// The board of an image, on which nobody has made a step, its first seat, and its cells with the contents with which they open. There is room
-/// for at least `most` deadlines, and those are no fewer than the image's weight.
+/// for at least `most` deadlines, and those are more than the image's weight.
 pub fn opening(
     alloc: Global,
     image: &Image,
     most: usize,
 ) -> Result<(Board<Contents, NextStep>, Seat<Contents>, Cells<Contents>), OutOfMemory>
     requires lawful { IsLawful image.now }
-    requires room { weight image.now ≤ most }
+    requires room { weight image.now < most }
     ensures seated { IfOk result (λ r. IsSeated image.now r.0.table.shared.table_id r.2 r.1) }
     ensures slots { IfOk result (λ r. r.0.table.shared.table_id.slots ≡ 141) }
     ensures first { IfOk result (λ r. IsFirst r.1) }

@@ -101,7 +101,7 @@ pub fn first_contents(
     requires scheduler { OpensWith image.now Site.scheduler (Cell.scheduler scheduler) }
     requires clock { OpensWith image.now Site.clock (Cell.clock clock.clock) }
     requires joins { OpensWith image.now Site.joins (Cell.joins joins) }
-    requires room { weight image.now ≤ clock.most }
+    requires room { weight image.now < clock.most }
     ensures first { IfOk result (λ all. AreFirst image.now all.items) }
     ensures all { IfOk result (λ all. length all.items ≡ 141) }
 {

@@ -127,7 +127,7 @@ pub fn run_cpus<R: Threads + Wait + Sync, G: Gate + Sync>(
     let _domains = image.domains.len();
     let bytes = rodata(alloc, image)?;
     let mut logs = Vec::with_capacity(alloc, cpus as usize)?;
-    let (board, mut seat, cells) = opening(alloc, image, most)?;
+    let (board, mut seat, cells) = opening(alloc, image, most.saturating_add(1))?;
     let mut all = seats(
         alloc,
         image,

@@ -15,7 +15,7 @@ use Rattle.um_board.specs.Saw.{Hinders}
 use Rattle.um_board.proofs.sites.SeatedSites.arm.Goals as goal
 
 -- the clock is full
-many-marks : (w n most : ℕ) → w ≤ most → (most ≤ n) ⊎ (268435455 ≤ n) → (w ≤ n) ⊎ (268435455 ≤ n)
+many-marks : (w n most : ℕ) → w < most → (most ≤ n) ⊎ (268435455 ≤ n) → (w < n) ⊎ (268435455 ≤ n)
 many-marks w n most room (inl full) = inl (omega (arith, room, full))
 many-marks w n most room (inr full) = inr full
 
@@ -57,7 +57,7 @@ leave_cell-requires-clause-room c =
     let was : c.deref_mut.result.now ≡ d = search rules in
     let marks = c.in-Some.ensures.turn.1.marks in
     let most : c.arm-deadline.new.self.most ≡ d.most = ap (λ (t : Timed). t.most) (c.arm-deadline.ensures.left) ∙ ap (λ (t : Timed). t.most) was in
-    subst (λ (n : ℕ). weight c.args.here.now.image.now ≤ n) (sym most) marks
+    subst (λ (n : ℕ). weight c.args.here.now.image.now < n) (sym most) marks
 
 pub arm-deadline-requires-clause-room : goal.arm-deadline-requires-clause-room
 arm-deadline-requires-clause-room c =

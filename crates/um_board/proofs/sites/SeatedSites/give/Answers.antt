@@ -1,4 +1,4 @@
-use Rattle.std.proofs.Common.{rules, ℕ, ◌≡◌, ◌≤◌, ◌∙◌, ap, refl, subst, sym, arith, Some}
+use Rattle.std.proofs.Common.{rules, ℕ, ◌≡◌, ◌<◌, ◌∙◌, ap, refl, subst, sym, arith, Some}
 use Rattle.um_base.specs.Weight.{weight}
 use Rattle.um_fine.specs.Cells.{Cell}
 use Rattle.um_fine.specs.Clock.{first_due, give_first}
@@ -42,7 +42,7 @@ leave_cell-requires-clause-room c =
     let was : c.deref_mut.result.now ≡ d = search rules in
     let marks = c.in-Some.ensures.turn.1.marks in
     let most : c.give.new.self.most ≡ d.most = ap (λ (t : Timed). t.most) (c.in-Some-give.ensures.left) ∙ ap (λ (t : Timed). t.most) was in
-    subst (λ (n : ℕ). weight c.args.here.now.image.now ≤ n) (sym most) marks
+    subst (λ (n : ℕ). weight c.args.here.now.image.now < n) (sym most) marks
 
 pub returns-in-None-clause-said : goal.returns-in-None-clause-said
 returns-in-None-clause-said c =
@@ -64,4 +64,4 @@ put_back-requires-clause-room c =
     let d = c.in-Some.turn.before.value.value in
     let was : c.deref_mut.result.now ≡ d = search rules in
     let most = ap (λ (t : Timed). t.most) (c.in-None.ensures.none refl ∙ was) in
-    subst (λ (n : ℕ). weight c.args.here.now.image.now ≤ n) (sym most) c.in-Some.ensures.turn.1.marks
+    subst (λ (n : ℕ). weight c.args.here.now.image.now < n) (sym most) c.in-Some.ensures.turn.1.marks

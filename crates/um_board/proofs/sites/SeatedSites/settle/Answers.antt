@@ -1,4 +1,4 @@
-use Rattle.std.proofs.Common.{rules, ℕ, ◌≡◌, ◌≤◌, ◌∙◌, ap, refl, subst, sym}
+use Rattle.std.proofs.Common.{rules, ℕ, ◌≡◌, ◌<◌, ◌∙◌, ap, refl, subst, sym}
 use Rattle.um_base.specs.Weight.{weight}
 use Rattle.um_fine.specs.Cells.{Cell}
 use Rattle.um_fine.specs.Clock.{settle_first}
@@ -37,4 +37,4 @@ leave_cell-requires-clause-room c =
     let was : c.deref_mut.result.now ≡ d = search rules in
     let marks = c.in-Some.ensures.turn.1.marks in
     let most : c.settle.new.self.most ≡ d.most = ap (λ (t : Timed). t.most) (c.settle.ensures.left) ∙ ap (λ (t : Timed). t.most) was in
-    subst (λ (n : ℕ). weight c.args.here.now.image.now ≤ n) (sym most) marks
+    subst (λ (n : ℕ). weight c.args.here.now.image.now < n) (sym most) marks

@@ -1,4 +1,4 @@
-use Rattle.std.proofs.Common.{rules, ℕ, ◌≡◌, ◌≤◌, ◌∙◌, ap, subst, sym, arith, Option, Some, is_some, unwrap_or}
+use Rattle.std.proofs.Common.{rules, ℕ, ◌≡◌, ◌<◌, ◌∙◌, ap, subst, sym, arith, Option, Some, is_some, unwrap_or}
 use Rattle.um_base.specs.Weight.{weight}
 use Rattle.um_base.specs.declared.act.Act.{Act}
 use Rattle.um_base.specs.declared.act.Event.{Event}
@@ -53,7 +53,7 @@ leave_cell-requires-clause-room c =
     let was : c.deref_mut.result.now ≡ d = search rules in
     let marks = c.in-Some.ensures.turn.1.marks in
     let most : c.tick.new.self.most ≡ d.most = ap (λ (t : Timed). t.most) (c.in-Some-tick.ensures.left) ∙ ap (λ (t : Timed). t.most) was in
-    subst (λ (n : ℕ). weight c.args.here.now.image.now ≤ n) (sym most) marks
+    subst (λ (n : ℕ). weight c.args.here.now.image.now < n) (sym most) marks
 
 pub returns-in-None-clause-said : goal.returns-in-None-clause-said
 returns-in-None-clause-said c =
@@ -75,4 +75,4 @@ put_back-requires-clause-room c =
     let d = c.in-Some.turn.before.value.value in
     let was : c.deref_mut.result.now ≡ d = search rules in
     let most = ap (λ (t : Timed). t.most) (c.in-None.ensures.left ∙ was) in
-    subst (λ (n : ℕ). weight c.args.here.now.image.now ≤ n) (sym most) c.in-Some.ensures.turn.1.marks
+    subst (λ (n : ℕ). weight c.args.here.now.image.now < n) (sym most) c.in-Some.ensures.turn.1.marks
