@@ -242,16 +242,19 @@ class Timeline {
       lastX = x;
       if (event > 0 && x >= LABEL_WIDTH) {
         path(context, [[x, top], [x, this.overviewTop - 6]]);
+        context.globalAlpha = isDense ? FADED : 1;
         context.stroke();
+        context.globalAlpha = 1;
       }
-      const left = Math.max(LABEL_WIDTH, x) + 3;
+      const right = Math.max(LABEL_WIDTH, x) + 3;
       const next = place + 1 < seen.length && !isDense ? this.x(seen[place + 1].event) + 1 : Infinity;
-      const right = left < free ? left : next;
-      const label = [`tick ${time}`, String(time)].find((text) => context.measureText(text).width <= right - left) ?? "";
+      const label = [`tick ${time}`, String(time)].find((text) => context.measureText(text).width <= next - right) ?? "";
       const { width } = context.measureText(label);
-      context.fillText(label, left + width > this.width ? x - 3 - width : left, y);
-      if (label) free = left + width + 6;
-      this.drawn.ticks.push({ event, time, x, label });
+      const left = right + width > this.width ? x - 3 - width : right;
+      const isLabelled = label !== "" && left >= free;
+      if (isLabelled) context.fillText(label, left, y);
+      if (isLabelled) free = left + width + 6;
+      this.drawn.ticks.push({ event, time, x, label: isLabelled ? label : "" });
     });
     context.setLineDash([]);
   }

@@ -1,9 +1,32 @@
 """Tests of what the page shows of virtual time, of threads that others stop, and of futexes."""
 import re
 
-from claim_tests import has, sentences
+from claim_tests import has, said, sentences, show_run
 from judging import EXAMPLES, holds, same
 from page_tests import PAGE, cell, choose, colour_at, colour_named, note, show_example, text_of
+
+# A supervisor a, a user b, a timer, and two futexes that share two bytes.
+SYSTEM = """\
+version = 1
+mpu = "pmsav7"
+regions = 8
+oops = "abort"
+partition = [{name = "p", size = 32, attr = "P_RW_U_RW"}]
+domain = [{name = "d", partitions = ["p"]}]
+object = [
+  {name = "a", kind = "thread"}, {name = "sa", kind = "thread_stack", size = 64},
+  {name = "b", kind = "thread"}, {name = "sb", kind = "thread_stack", size = 64}, {name = "tm", kind = "timer"}]
+boot = [
+  {thread = "a", stack = "sa", script = "go", mode = "supervisor", priority = 0, domain = "d"},
+  {thread = "b", stack = "sb", script = "work", priority = 0, domain = "d", grants = ["tm"]}]
+futex = [{name = "f", partition = "p", offset = 4}, {name = "g", partition = "p", offset = 6}]
+[[script]]
+name = "go"
+lines = ["k_thread_suspend @b", "k_thread_resume @b", "k_thread_abort @a"]
+[[script]]
+name = "work"
+lines = ["k_timer_start @tm 3", "k_timer_status_get @tm r1", "k_timer_start @tm 0xffffffff", "k_timer_stop @tm", "k_futex_wait @g 0 K_TICKS(2)"]
+"""
 
 # For each form of an event a line that is read, and words in its place that aren't.
 LINES = [
@@ -104,16 +127,94 @@ def stopped_threads(browser) -> None:
     holds(f"no word says that it is killed: {drawn['words']}", "killed" in drawn["words"])
     same("waits that are cut", [wait["end"] for wait in drawn["waits"] if wait["isCut"]], [61])
     same("arrows of stops", [arrow["event"] for arrow in drawn["arrows"] if arrow["group"] == "stopped"], [60, 61])
+    x, y = browser.run("return [page.timeline.x(61), page.timeline.laneY(1)]")
+    seen, wanted = colour_at(browser, x, y), colour_named(browser, "mark-stopped")
+    holds(f"no stroke across the wait that is cut: {seen}", all(abs(one - other) < 16 for one, other in zip(seen, wanted)))
+    same("its lives", [(life["start"], life["end"]) for life in browser.run("return page.run.lives[1]")], [(0, 63), (82, 92)])
     column = browser.run("return [page.timeline.x(75), page.timeline.laneY(1)]")
     seen = [colour_at(browser, column[0] + x, column[1] - 14) for x in range(12)]
     holds(f"the lane of the killed one isn't hatched: {seen}", colour_named(browser, "stopped") in seen and len({tuple(one) for one in seen}) > 1)
     for k, wanted in {60: "waits for input, aborted", 61: "ready, aborted", 63: "ended, killed", 82: "ready"}.items():
         choose(browser, k)
         same(f"the heading of worker after event {k}", note_of_thread(browser, "worker"), f"user in app, {wanted}")
+    choose(browser, 62)
+    same("what its call holds", cell(browser, "worker", "input"), "●◆")
+    choose(browser, 63)
+    same("what it holds behind its end", cell(browser, "worker", "input"), "●!")
+    has("its stack", said(browser, "worker", "worker_s"), "nothing, it has ended", "Last changed by event 63: worker killed")
     has("an abort", sentences(browser, 60), "main aborts worker", "It waits for input, and will be cut.")
     has("a cut", sentences(browser, 61), "its call doesn't answer", "event 60: main abort worker ok")
     has("the end", sentences(browser, 63), "worker is killed", "event 60: main abort worker ok")
     has("a join of what has ended", sentences(browser, 71), "the join answers 0")
+
+
+def timer_that_nobody_waits_for(browser) -> None:
+    show_run(
+        browser,
+        [
+            "b begin work 1", "b arm 3", "b act tm void", "b tick 3", "a expire tm", "b begin work 2", "b act tm 1", "b reply 1",
+            "b begin work 3", "b arm 4294967298", "b act tm void", "b begin work 4", "b act tm void", "b tick 4294967298",
+        ],
+        SYSTEM,
+    )  # fmt: skip
+    wanted = {
+        3: "status 0, runs until tick 3", 5: "status 1, stopped", 7: "status 0, stopped", 11: "status 0, runs until tick 4294967298",
+        13: "status 0, stopped",
+    }  # fmt: skip
+    for k, state in wanted.items():
+        choose(browser, k)
+        same(f"the timer after event {k}", note(browser, "tm"), f"timer · initialised, {state}")
+    same("the register that gets the status", browser.run("return page.run.stateAfter(7).registers[8 + 1]"), 1)
+    has("an expiry", sentences(browser, 5), "Nobody waits for it, so its status is 1 until somebody asks.")
+    choose(browser, 13)
+    same("a deadline that is nobody's any more", text_of(browser, "#clock"), "Virtual time is tick 3. Deadlines ahead: 4294967298.")
+    choose(browser, 14)
+    same("time of more than 32 bits", text_of(browser, "#clock"), "Virtual time is tick 4294967298. No deadline is ahead.")
+    show_run(browser, ["b begin work 1", "b arm 0", "b act tm void"], SYSTEM)
+    choose(browser, 3)
+    same("a deadline of now", text_of(browser, "#clock"), "Virtual time is tick 0. Deadlines that have come: 0 (tm). No deadline is ahead.")
+
+
+def suspended_and_killed_by_itself(browser) -> None:
+    show_run(
+        browser,
+        [
+            "a begin go 1", "a check b thread init ok", "a suspend b ok", "a reply void", "a begin go 2", "a continue b ok", "a reply void",
+            "a begin go 3", "a check a thread init ok", "a abort a ok", "a killed", "a suspend b none", "a drop a a kept",
+        ],
+        SYSTEM,
+    )  # fmt: skip
+    choose(browser, 3)
+    same("the heading of b", note_of_thread(browser, "b"), "user in d, ready, suspended")
+    has("a suspend", sentences(browser, 3), "b is suspended: it begins no line until it is resumed.")
+    has("a resume", sentences(browser, 6), "b isn't suspended any more")
+    same("the heading of b behind it", note_of_thread(browser, "b"), "user in d, ready")
+    has("an abort", sentences(browser, 10), "a aborts itself: it is killed in place of a reply.")
+    has("its end", sentences(browser, 11), "a is killed", "event 10: a abort a ok")
+    same("a holds its own object alone", (cell(browser, "a", "b"), cell(browser, "a", "a")), ("!", "●◆"))
+    has("a suspend of what doesn't live", sentences(browser, 12), "b doesn't live")
+    browser.run("page.timeline.drawNow()")
+    drawn = browser.run("return page.timeline.drawn")
+    stops = [(stop["thread"], stop["start"], stop["end"], stop["word"]) for stop in drawn["stops"]]
+    same("stops", stops, [(0, 10, 11, "aborted"), (0, 11, -1, "killed"), (1, 3, 6, "suspended")])
+    same("arrows", [(arrow["event"], arrow["to"]) for arrow in drawn["arrows"]], [(3, 1), (6, 1)])
+    browser.run("page.timeline.hidden.add(GROUP_NUMBER.get('stopped')); page.timeline.drawNow()")
+    same("arrows and stops that are hidden", browser.run("const { arrows, stops } = page.timeline.drawn; return [arrows, stops]"), [[], []])
+
+
+def futexes_that_overlap(browser) -> None:
+    wait, wake = "b futex wait 0x20000006 0x0 wait", "a futex wake 0x20000004 0"
+    show_run(browser, ["b begin work 5", "b arm 2", wait, "a tick 2", "b timeout b", "b resume", "b reply ETIMEDOUT", wake], SYSTEM)
+    choose(browser, 3)
+    notes = ("futex · 0x20000004 to 0x20000007", "futex · 0x20000006 to 0x20000009, waited on by b")
+    same("both futexes", (note(browser, "f"), note(browser, "g")), notes)
+    has("a wait", sentences(browser, 3), "The futex g (p+6, 0x20000006) has the value 0x0, so b begins to wait there, until tick 2 at the most.")
+    has("a timeout", sentences(browser, 5), "It waits for the futex g no longer, and its call answers ETIMEDOUT.")
+    same("g behind it", note(browser, "g"), "futex · 0x20000006 to 0x20000009")
+    for name in ("f", "g"):
+        browser.run("page.tellStory('memory', page.run.rights.regions.findIndex(({ name }) => name === arguments[0]))", name)
+        told = browser.run("return [...document.querySelectorAll('#story code')].map((line) => line.textContent)")
+        same(f"the story of {name}", told, [wait, wake])
 
 
 def joins(browser) -> None:
@@ -159,7 +260,10 @@ TESTS = [
     ticks_on_the_timeline,
     waits_with_their_deadlines,
     timer_from_start_to_expiry,
+    timer_that_nobody_waits_for,
     stopped_threads,
+    suspended_and_killed_by_itself,
     joins,
     futexes_among_the_memory,
+    futexes_that_overlap,
 ]
