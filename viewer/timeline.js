@@ -545,14 +545,25 @@ class Timeline {
     this.draw();
   }
 
-  // Says what a mark means, where the pointer is on one.
+  // Says what a mark means, where the pointer is on one; else how a thread is stopped there, and until when it waits at the most.
   hover(x, y) {
     const k = x > LABEL_WIDTH && y < this.overviewTop ? this.eventAtPoint(x, y) : 0;
     const isOn = k > 0 && Math.abs(this.laneY(this.run.trace.who[k]) - y) <= this.laneHeight / 2;
-    const told = isOn ? k : 0;
+    const told = isOn ? k : this.spansAt(x, y);
     if (told === this.hovered) return;
     this.hovered = told;
-    this.canvas.title = told ? `${told}: ${this.run.trace.line(told)}\n${explain(this.run, told)[0]}` : "";
+    this.canvas.title = isOn ? `${told}: ${this.run.trace.line(told)}\n${explain(this.run, told)[0]}` : told;
+  }
+
+  spansAt(x, y) {
+    const thread = this.threads[Math.floor((y - this.lanesTop) / this.laneHeight)];
+    if (thread === undefined || x <= LABEL_WIDTH) return "";
+    const k = Math.floor(this.eventAt(x));
+    const name = this.run.description.nameOfThread(thread);
+    const stop = seenSpans(this.run.stops[thread], k, k).at(-1);
+    const wait = seenSpans(this.run.waits[thread], k, k).find(({ deadline }) => deadline >= 0);
+    const told = [stop && `${name} is ${stop.word}.`, wait && `${name} waits until tick ${wait.deadline} at the most.`];
+    return told.filter((sentence) => sentence).join("\n");
   }
 
   // The event that a click at a point means: that of the place, or the one that weighs most where many share it.

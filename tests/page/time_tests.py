@@ -97,6 +97,12 @@ def waits_with_their_deadlines(browser) -> None:
     has("a timeout", sentences(browser, 11), "The deadline, tick 4, of sensor has come.", "It waits for never no longer, and its call answers EAGAIN.")
     has("a resume behind a timeout", sentences(browser, 12), "since its deadline has come")
     has("a resume behind a wake", sentences(browser, 19), "was woken")
+    hover = """const box = page.timeline.canvas.getBoundingClientRect();
+        const [x, y] = [page.timeline.x(arguments[0]), page.timeline.laneY(arguments[1])];
+        page.timeline.canvas.dispatchEvent(new PointerEvent("pointermove", { clientX: box.left + x, clientY: box.top + y }));
+        return page.timeline.canvas.title"""
+    same("text at a bar", browser.run(hover, 7, 0), "logger waits until tick 10 at the most.")
+    same("text beside it", browser.run(hover, 22, 0), "")
     show_example(browser, "missed-deadline")
     arrows = browser.run("return page.timeline.drawn.arrows.map(({ event, group }) => [event, group])")
     same("arrows", arrows, [[14, "timeout"], [24, "wait"], [29, "wait"]])
