@@ -39,7 +39,7 @@ for (const kind in FORMS) FORMS[kind] = FORMS[kind].split(" ").filter((field) =>
 const DOMAIN_FORMS = { init: ["reply"], add: ["part", "reply"], remove: ["part", "reply"], move: ["thread", "reply"] };
 const FUTEX_FORMS = { wait: ["memory", "value", "compared"], wake: ["memory", "reply"] };
 // The kinds of events behind whose words the threads stand that they wake.
-const WAKING_KINDS = new Set(["act", "expire", "left", "futex"]);
+const WAKING_KINDS = new Set(["act", "expire", "left", "futex wake"]);
 
 const MEMORY_WORD = /^0x[0-9a-f]{8}$/;
 const COUNT_WORD = /^\d{1,10}$/;
@@ -130,7 +130,8 @@ class Trace {
       }
     }
     const last = first + form.length;
-    if (WAKING_KINDS.has(words[1])) this.readWoken(k, words, last, line);
+    const kind = words[1] === "futex" ? `futex ${words[2]}` : words[1];
+    if (WAKING_KINDS.has(kind)) this.readWoken(k, words, last, line);
     else if (words.length > last) this.refuse(line, "it goes on too long");
   }
 

@@ -45,7 +45,7 @@ LINES = [
     ("main left worker", ["main left", "main left alive", "main left worker 0"]),
     ("main left worker wake main 0", ["main left worker wake main", "main left worker wakes main 0"]),
     ("main futex wait 0x20000000 0x1 wait", ["main futex wait 0x20000000 0x1", "main futex wait 0x20000000 1 wait", "main futex wait 0x20000000 0x1 ok"]),
-    ("main futex wait 0x20000000 0x1 ETIMEDOUT", ["main futex wait alive 0x1 ETIMEDOUT", "main futex wait 0x20000000 0x1 5"]),
+    ("main futex wait 0x20000000 0x1 ETIMEDOUT", ["main futex wait alive 0x1 ETIMEDOUT", "main futex wait 0x20000000 0x1 5", "main futex wait 0x20000000 0x1 wait wake worker 0"]),
     ("main futex wake 0x20000000 1 wake worker 0", ["main futex wake 0x20000000", "main futex wakes 0x20000000 1", "main futex wake 0x20000000 1 wake"]),
     ("main futex wake 0x20000000 EACCES", ["main futex", "main futex wake 0x20000000 wait"]),
     ("main check round timer init ok", ["main check round timers init ok"]),
