@@ -1,25 +1,14 @@
 -- Where each processor saw after its last step that no thread is ready or runs, and that no mark is owed, none can make another step: every fine run of
 -- their steps is over, and what any list in the order of the logs shows is a complete run.
-use Rattle.std.proofs.Common.{◌≡◌, ℕ, ◌<◌, ◌≤◌, false, eqb, List, [], length, map, Some, None, sym, ap, ◌∙◌, subst, arith}
-use Rattle.std.specs.Prelude.{IsTrue, Option}
-use Rattle.std.proofs.lemmas.Bool.{and_parts}
+use Rattle.std.proofs.Common.{◌≡◌, ℕ, ◌<◌, ◌≤◌, eqb, List, length, map, sym, ap, ◌∙◌, subst, arith}
+use Rattle.std.specs.Prelude.{Option}
 use Rattle.um_base.specs.Weight.{weight}
-use Rattle.um_base.specs.declared.act.Act.{Act}
 use Rattle.um_base.specs.declared.image.Image.{Image}
 use Rattle.um_invariants.specs.Described.{IsDescribed}
-use Rattle.um_words.specs.CellActs.{is_resume}
-use Rattle.um_words.specs.declared.fine.FineAct.{FineAct}
-use Rattle.um_fine.specs.Asks.{CpuMay, says, says_idle, site_at}
-use Rattle.um_fine.specs.Cells.{Cell}
 use Rattle.um_fine.specs.Erasure.{shown}
 use Rattle.um_fine.specs.FineRun.{IsFineRun}
-use Rattle.um_fine.specs.Follows.{p_next}
-use Rattle.um_fine.specs.Processor.{Processor, idle}
-use Rattle.um_fine.specs.Runs.{ends, sublist}
-use Rattle.um_fine.specs.Scheduler.{Scheduler, has_ready, sched_takes}
-use Rattle.um_fine.specs.Sites.{SiteMay, SiteState}
-use Rattle.um_fine.specs.Steps.{Exchange, FineStep, Site}
-use Rattle.um_fine.specs.Places.{Todos}
+use Rattle.um_fine.specs.Runs.{sublist}
+use Rattle.um_fine.specs.Steps.{FineStep}
 use Rattle.um_merge.specs.Merged as Merged
 use Rattle.um_merge.specs.Logs.{Log, events_of}
 use Rattle.um_merge.specs.Merged.{HaveOrder, IsOrder}
@@ -29,7 +18,6 @@ use Rattle.um_refinement.specs.After.{left_by}
 use Rattle.um_refinement.specs.Choice.{IsQuiet}
 use Rattle.um_refinement.specs.Room.{CanCount, CanRun, IsStuck}
 use Rattle.um_refinement.specs.Shows.{AreCompleteRun, AreRun}
-use Rattle.um_core.specs.PickedRun.{IsOver, processor_after, site_after}
 use Rattle.um_core.proofs.Counts.{can-count}
 use Rattle.um_board.specs.Contents.{Known}
 use Rattle.um_board.specs.Noted.{logged_of}

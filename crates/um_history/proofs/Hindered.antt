@@ -1,50 +1,38 @@
 -- Which causes for making no step a seat never meets.
-use Rattle.std.proofs.Common.{◌≡◌, ◌⊎◌, ⊎_elim, ℕ, ◌+◌, ◌<◌, ◌≤◌, Bool, true, false, List, [], length, map, Some, None, refl, sym, ap, ◌∙◌, subst, arith}
-use Rattle.std.specs.Prelude.{IsTrue, nat_lt, ◌&&◌}
+use Rattle.std.proofs.Common.{◌≡◌, ◌⊎◌, ⊎_elim, ℕ, ◌+◌, ◌<◌, ◌≤◌, true, List, [], length, Some, None, refl, sym, ap, ◌∙◌, subst, arith}
+use Rattle.std.specs.Prelude.{IsTrue}
 use Rattle.std.proofs.lemmas.Bool.{false≢true, lt-ltb, ltb-true}
 use Rattle.std.proofs.lemmas.List.{length-map}
 use Rattle.um_base.specs.Weight.{weight}
 use Rattle.um_base.specs.declared.image.Image.{Image}
-use Rattle.um_machine.specs.Order.{to_thread}
 use Rattle.um_invariants.specs.Described.{IsDescribed}
 use Rattle.um_words.specs.History.{bare}
 use Rattle.um_words.specs.Inverse.{domain-back, thread-back}
-use Rattle.um_words.specs.Packed.{cell_of, domain_in, domain_of, row_of, thread_in, thread_of}
-use Rattle.um_words.specs.declared.cell_word.CellWord.{CellWord}
-use Rattle.um_words.specs.declared.dom_word.DomWord.{DomWord}
-use Rattle.um_words.specs.declared.fine.FineAct.{FineAct}
-use Rattle.um_words.specs.declared.fine.Unseen.{Unseen}
-use Rattle.um_words.specs.declared.row_word.RowWord.{RowWord}
-use Rattle.um_words.specs.declared.thread_word.ThreadWord.{ThreadWord}
+use Rattle.um_words.specs.Packed.{cell_of, domain_of, thread_of}
 use Rattle.um_fine.specs.Cells.{Cell, cell_word}
 use Rattle.um_fine.specs.Clock.{Clock}
 use Rattle.um_fine.specs.FineRun.{IsFineRun, cpu_of, same_cpu}
 use Rattle.um_fine.specs.Runs.{has_key}
-use Rattle.um_fine.specs.Scheduler.{Scheduler, has_ready}
-use Rattle.um_fine.specs.Sites.{SiteState, is_site, site_number, site_numbered, site_takes, word_of}
-use Rattle.um_fine.specs.Steps.{FineStep, Site, Word}
+use Rattle.um_fine.specs.Sites.{SiteState, is_site, site_number, site_numbered, word_of}
+use Rattle.um_fine.specs.Steps.{FineStep, Site}
 use Rattle.um_refinement.specs.After.{left_by}
 use Rattle.um_refinement.specs.Fine.{clock, clock_state}
 use Rattle.um_refinement.specs.Room.{CanRun, has_number}
-use Rattle.um_core.specs.PickedRun.{processor_after}
 use Rattle.um_core.proofs.Counts.{can-count}
 use Rattle.um_merge.specs.declared.logged.Logged.{Logged}
-use Rattle.um_tables.specs.Asked.{AsksFor}
-use Rattle.um_tables.specs.Sited.{IsShut}
 use Rattle.um_site.specs.declared.seat.Seat.{Seat}
-use Rattle.um_site.proofs.Bare.{bare-even, bare-high, bare-low}
+use Rattle.um_site.proofs.Bare.{bare-even, bare-low}
 use Rattle.um_board.specs.Contents.{Known, known}
 use Rattle.um_board.specs.Noted.{packed}
-use Rattle.um_board.specs.ReadBack.{fine_at, unpacked}
-use Rattle.um_board.proofs.Saws.{and-no}
-use Rattle.um_board.specs.Saw.{Got, Hinders, OthersAt, SawAt, SawShut}
-use Rattle.um_history.specs.Fine.{Stood, WasRefused, left_at}
-use Rattle.um_history.proofs.CellRuns.{CellKnown, cell-reads, is_cell, word-number}
+use Rattle.um_board.specs.ReadBack.{fine_at}
+use Rattle.um_board.specs.Saw.{Hinders, OthersAt, SawAt}
+use Rattle.um_history.specs.Fine.{left_at}
+use Rattle.um_history.proofs.CellRuns.{CellKnown, cell-reads, is_cell}
 use Rattle.um_history.proofs.Lists.{short-sub}
 use Rattle.um_history.proofs.Numbers.{number-of-numbered, numbered-is}
 use Rattle.um_history.proofs.OpeningRuns.{SiteKnown}
 use Rattle.um_history.proofs.Stood.{IsSeatOf, cell-stood, g, left-stood, stood, word-stood}
-use Rattle.um_history.proofs.WordRuns.{DomainKnown, RowKnown, ThreadKnown, domain-reads, row-reads, thread-reads}
+use Rattle.um_history.proofs.WordRuns.{DomainKnown, ThreadKnown}
 
 -- The words of a fine run can be read.
 

@@ -10,7 +10,7 @@ use Rattle.um_words.specs.History.{Entry, bare, by_site}
 use Rattle.um_words.specs.Inverse.{thread-back}
 use Rattle.um_words.specs.Packed.{cell_of, domain_in, row_of, thread_of}
 use Rattle.um_fine.specs.Cells.{Cell, cell_word}
-use Rattle.um_fine.specs.FineRun.{SameOrder, site_of}
+use Rattle.um_fine.specs.FineRun.{SameOrder}
 use Rattle.um_fine.specs.Opening.{s_start}
 use Rattle.um_fine.specs.Runs.{ends}
 use Rattle.um_fine.specs.Sites.{SiteState, is_site, s_next, site_number, word_of}

@@ -1,6 +1,6 @@
 -- Where each processor saw after its last step that no thread is ready or runs, and that no mark is owed, every fine run of their steps leaves the
 -- scheduler so.
-use Rattle.std.proofs.Common.{◌≡◌, ℕ, ◌+◌, ◌*◌, ◌-◌, ◌<◌, ◌≤◌, ◌/◌, ◌%◌, List, [], ◌∷◌, ◌⊎◌, inl, inr, ⊎_elim, length, map, refl, sym, ap, ◌∙◌, subst, arith}
+use Rattle.std.proofs.Common.{◌≡◌, ℕ, ◌-◌, ◌<◌, ◌≤◌, ◌/◌, ◌%◌, List, [], ◌∷◌, ◌⊎◌, inl, inr, ⊎_elim, length, map, refl, sym, ap, ◌∙◌, subst, arith}
 use Rattle.std.specs.Prelude.{IsTrue, Option, slice_index, true}
 use Rattle.std.proofs.lemmas.Bool.{false≢true, ltb-true}
 use Rattle.um_base.specs.declared.image.Image.{Image}
@@ -15,7 +15,6 @@ use Rattle.um_words.specs.declared.cell_word.CellWord.{CellWord}
 use Rattle.um_words.specs.Sublists.{sub}
 use Rattle.um_words.specs.declared.made.Made.{Made}
 use Rattle.um_fine.specs.Cells.{Cell, cell_word}
-use Rattle.um_fine.specs.Scheduler.{Scheduler}
 use Rattle.um_fine.specs.Sites.{SiteState, is_sort, word_of}
 use Rattle.um_fine.specs.Steps.{FineStep, Site}
 use Rattle.um_site.specs.History.{Fresh, IsNoNewer}
@@ -155,5 +154,5 @@ module _ (image : Image) (cpus : ℕ) (v : View) (words : List ℕ) (slots : Lis
   quiet-end g short fine =
       let counts = can-count image g short cpus in
       let none = none-in (site_after image g Site.scheduler) (sorts-after image g Site.scheduler) (few-left image cpus described can g fine.run) (running-left image cpus described can g fine.run)
-        counts.owed (counts.numbers Site.scheduler) (fine.words_are 306 (omega arith)) in
+      counts.owed (counts.numbers Site.scheduler) (fine.words_are 306 (omega arith)) in
       record { ready = none.0; running = none.1; owed = none.2 }

@@ -1,15 +1,13 @@
 -- What stood at the site that refused a step of a seat, and that the processor was held up.
-use Rattle.std.proofs.Common.{◌≡◌, ℕ, ◌+◌, ◌-◌, ◌/◌, ◌%◌, ◌*◌, ◌<◌, ◌≤◌, Bool, true, false, List, [], length, map, Some, None, refl, sym, ap, ◌∙◌, subst, arith}
+use Rattle.std.proofs.Common.{◌≡◌, ℕ, ◌-◌, ◌/◌, ◌%◌, ◌<◌, ◌≤◌, Bool, false, List, [], length, map, refl, sym, ap, ◌∙◌, subst, arith}
 use Rattle.std.specs.Prelude.{IsTrue, nat_lt, ◌&&◌}
-use Rattle.std.proofs.lemmas.Bool.{false≢true, lt-ltb, ltb-true}
-use Rattle.std.proofs.lemmas.List.{length-map}
+use Rattle.std.proofs.lemmas.Bool.{false≢true}
 use Rattle.um_base.specs.Weight.{weight}
 use Rattle.um_base.specs.declared.image.Image.{Image}
 use Rattle.um_machine.specs.Order.{to_thread}
 use Rattle.um_invariants.specs.Described.{IsDescribed}
 use Rattle.um_words.specs.History.{bare}
-use Rattle.um_words.specs.Inverse.{domain-back, thread-back}
-use Rattle.um_words.specs.Packed.{cell_of, domain_in, domain_of, row_of, thread_in, thread_of}
+use Rattle.um_words.specs.Packed.{cell_of, domain_in, row_of, thread_in}
 use Rattle.um_words.specs.declared.cell_word.CellWord.{CellWord}
 use Rattle.um_words.specs.declared.dom_word.DomWord.{DomWord}
 use Rattle.um_words.specs.declared.fine.FineAct.{FineAct}
@@ -17,17 +15,13 @@ use Rattle.um_words.specs.declared.fine.Unseen.{Unseen}
 use Rattle.um_words.specs.declared.row_word.RowWord.{RowWord}
 use Rattle.um_words.specs.declared.thread_word.ThreadWord.{ThreadWord}
 use Rattle.um_fine.specs.Cells.{Cell, cell_word}
-use Rattle.um_fine.specs.FineRun.{IsFineRun, cpu_of, same_cpu}
-use Rattle.um_fine.specs.Runs.{has_key}
+use Rattle.um_fine.specs.FineRun.{IsFineRun}
 use Rattle.um_fine.specs.Scheduler.{Scheduler, has_ready}
-use Rattle.um_fine.specs.Sites.{SiteState, is_site, site_number, site_numbered, site_takes, word_of}
+use Rattle.um_fine.specs.Sites.{SiteState, is_site, site_number, site_takes, word_of}
 use Rattle.um_fine.specs.Steps.{FineStep, Site, Word}
-use Rattle.um_refinement.specs.Fine.{scheduler_state}
-use Rattle.um_refinement.specs.Room.{CanRun, has_number}
+use Rattle.um_refinement.specs.Room.{CanRun}
 use Rattle.um_core.specs.PickedRun.{processor_after}
-use Rattle.um_core.proofs.Counts.{can-count}
-use Rattle.um_merge.specs.declared.logged.Logged.{Logged}
-use Rattle.um_tables.specs.Asked.{AsksFor}
+use Rattle.um_processor.specs.Wants.{Wants}
 use Rattle.um_tables.specs.Sited.{IsShut}
 use Rattle.um_site.specs.declared.seat.Seat.{Seat}
 use Rattle.um_site.proofs.Bare.{bare-even, bare-high, bare-low}
@@ -35,13 +29,11 @@ use Rattle.um_board.specs.Contents.{Known}
 use Rattle.um_board.specs.Noted.{packed}
 use Rattle.um_board.specs.ReadBack.{fine_at, unpacked}
 use Rattle.um_board.proofs.Saws.{and-no}
-use Rattle.um_board.specs.Saw.{Got, Hinders, OthersAt, SawAt, SawShut}
+use Rattle.um_board.specs.Saw.{Got, SawAt, SawShut}
 use Rattle.um_history.specs.Fine.{Stood, WasRefused, left_at}
-use Rattle.um_history.proofs.CellRuns.{CellKnown, cell-reads, is_cell, word-number}
-use Rattle.um_history.proofs.Lists.{short-sub}
+use Rattle.um_history.proofs.CellRuns.{CellKnown, cell-reads, word-number}
 use Rattle.um_history.proofs.Hindered.{as-cell, cell-far}
 use Rattle.um_history.proofs.QuietEnd.{no-length}
-use Rattle.um_history.proofs.Numbers.{number-of-numbered, numbered-is}
 use Rattle.um_history.proofs.OpeningRuns.{SiteKnown}
 use Rattle.um_history.proofs.Stood.{IsSeatOf, cell-stood, g, left-stood, stood, word-stood}
 use Rattle.um_history.proofs.Waiting.{WaitsAll, held-none, held-shut}
@@ -139,7 +131,7 @@ module _ (image : Image) (described : IsDescribed image) (can : CanRun image 8) 
     (k : ℕ) (s : Seat Known) (seat : IsSeatOf image k s) where
   -- where the site refused the step, it refused it as it stood, and the processor waits
   module _ (all : WaitsAll image) (t : Seat Known) (e : FineStep) (there : IsTrue (is_site e.site))
-      (asks : (h : List FineStep) → Stood image k (map (fine_at k) s.token.me.0.made) h → AsksFor k image (processor_after image h k) e) where
+      (asks : (h : List FineStep) → Stood image k (map (fine_at k) s.token.me.0.made) h → Wants k image (processor_after image h k) e) where
     -- as its state stood at the site
     shut-there : (w : ℕ) (saw : SawAt s (site_number e.site) w) → Got s t (site_number e.site) w → (z : SiteState) → z ≡ left_at image (g image described can longest k s seat (site_number e.site) w saw) e.site
         → IsShut image z e → WasRefused image k s t e

@@ -1,5 +1,5 @@
 -- The fine run at the moment of a look, and the state of the site as the word that was read tells it.
-use Rattle.std.proofs.Common.{◌≡◌, ℕ, ◌<◌, ◌≤◌, List, [], ◌∷◌, length, map, Some, sym, ap, ◌∙◌, subst}
+use Rattle.std.proofs.Common.{◌≡◌, ℕ, ◌<◌, ◌≤◌, List, [], length, map, Some, sym, ap, ◌∙◌, subst}
 use Rattle.std.specs.Prelude.{IsTrue, slice_index}
 use Rattle.um_base.specs.Weight.{weight}
 use Rattle.um_base.specs.declared.image.Image.{Image}

@@ -10,7 +10,6 @@ use Rattle.um_machine.specs.State.{is_living}
 use Rattle.um_words.specs.declared.dom_word.DomWord.{DomWord}
 use Rattle.um_words.specs.declared.fine.FineAct.{FineAct}
 use Rattle.um_words.specs.declared.fine.More.{More}
-use Rattle.um_words.specs.declared.fine.Unseen.{Unseen}
 use Rattle.um_words.specs.declared.kind.WordKind.{WordKind}
 use Rattle.um_words.specs.declared.made.Made.{Made}
 use Rattle.um_words.specs.declared.row_word.RowWord.{RowWord}

@@ -7,7 +7,7 @@ use Rattle.um_words.specs.Steps.{number}
 use Rattle.um_words.specs.declared.made.Made.{Made}
 use Rattle.um_fine.specs.Follows.{p_next}
 use Rattle.um_fine.specs.Processor.{idle}
-use Rattle.um_fine.specs.Runs.{Run, ends}
+use Rattle.um_fine.specs.Runs.{Run}
 use Rattle.um_fine.specs.Sites.{site_number}
 use Rattle.um_fine.specs.Steps.{FineStep}
 use Rattle.um_merge.specs.Logs.{Log}

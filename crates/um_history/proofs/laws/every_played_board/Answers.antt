@@ -23,7 +23,7 @@ returns-clause-run c = λ image cpus v words slots logs steps described can play
 pub returns-clause-over : goal.returns-clause-over
 returns-clause-over c = λ image cpus v words slots logs steps described can played saw h of.
     let stuck = over image cpus v words slots logs steps described can (λ run fine. c.longest_fine_run.ensures image cpus run described can.few fine)
-      (λ run fine quiet. c.every_fine_run.ensures.quiet image cpus run described fine quiet) played saw h of in
+    (λ run fine quiet. c.every_fine_run.ensures.quiet image cpus run described fine quiet) played saw h of in
     λ e follows. stuck e follows.makes follows.takes
 
 pub returns-clause-complete : goal.returns-clause-complete
