@@ -47,7 +47,7 @@ module _ (image : Image) (described : IsDescribed image) (can : CanRun image 1) 
     long = length-append so.done (more.made ∷ [])
 
     pub alone-short : count + 1 ≤ weight image
-    alone-short = let most = short image 1 (so.done ++ more.made ∷ []) described more.stands.run in let more-long = long in let counted = so.counted in omega (arith, most, more-long, counted)
+    alone-short = let most = short image 1 (so.done ++ more.made ∷ []) described can.few more.stands.run in let more-long = long in let counted = so.counted in omega (arith, most, more-long, counted)
 
     pub alone-goes : AloneSoFar image (count + 1) new
     alone-goes =

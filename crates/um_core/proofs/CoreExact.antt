@@ -41,7 +41,7 @@ module _ (image : Image) (cpus : ℕ) (done : List FineStep) (core : Core) (is :
 
   nothing-left : HasNone image core k → NoneFollows image cpus done k
   nothing-left has =
-      has-none image cpus is.described is.can done core is.stands k l (λ steps run. let most = short image cpus steps is.described run in let room = is.room in omega (arith, most, room)) has
+      has-none image cpus is.described is.can done core is.stands k l (λ steps run. let most = short image cpus steps is.described is.can.few run in let room = is.room in omega (arith, most, room)) has
 
   -- The step that it makes is chosen.
 
@@ -55,7 +55,7 @@ module _ (image : Image) (cpus : ℕ) (done : List FineStep) (core : Core) (is :
 
     ready : (scheduler f).ready ≡ []
     ready =
-        ready-none image cpus is.can done m left (counts-known image cpus is.described short done is.stands.run) k l here
+        ready-none image cpus is.can done m left (counts-known image cpus is.described is.can.few short done is.stands.run) k l here
         (λ g same h n may. none-shut e refused false false turn.0 turn.1 g same h n may)
 
     tends-chosen : (made : FineStep) → Tends image core k made → IsChosen f made
@@ -65,7 +65,7 @@ module _ (image : Image) (cpus : ℕ) (done : List FineStep) (core : Core) (is :
           due = λ h. ready;
           tick = λ h. (
             ready,
-            due-none image cpus is.can done m left (counts-known image cpus is.described short done is.stands.run) k l here ready
+            due-none image cpus is.can done m left (counts-known image cpus is.described is.can.few short done is.stands.run) k l here ready
                 (λ x same i may. none-shut g shut true false due (due-no-tick g.act due) x same i (due-no-tick x.act i) may),
             sym (ap (λ (s : Scheduler). s.running) same-scheduler) ∙ still,
           );

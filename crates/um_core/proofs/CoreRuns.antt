@@ -96,7 +96,7 @@ module _ (image : Image) (cpus : ℕ) (described : IsDescribed image) (can : Can
 
     pub so-short : count + 1 ≤ weight image
     so-short =
-        let most = short image cpus (done ++ e ∷ []) described more.stands.run in
+        let most = short image cpus (done ++ e ∷ []) described can.few more.stands.run in
         let long = length-append done (e ∷ []) in
         let counted = so.counted in
         omega (arith, most, long, counted)

@@ -31,5 +31,6 @@ pub mod Picked
 pub mod ChoiceKnown
 pub mod CoreExact
 pub mod CoreTurns
+pub mod CoreMoves
 pub mod CoreRuns
 pub mod AloneRuns

@@ -127,16 +127,16 @@ module _ (image : Image) (cpus : ℕ) (described : IsDescribed image) (can : Can
 
 -- How long fine runs are.
 abbrev pub AreShort : Type 0
-AreShort = (image : Image) (cpus : ℕ) (steps : List FineStep) → IsDescribed image → IsFineRun image cpus steps → length steps ≤ weight image
+AreShort = (image : Image) (cpus : ℕ) (steps : List FineStep) → IsDescribed image → cpus ≤ 8 → IsFineRun image cpus steps → length steps ≤ weight image
 
 -- so no word of one comes to the end of what it counts
-pub counts-known : (image : Image) (cpus : ℕ) → IsDescribed image → AreShort → (done : List FineStep) → IsFineRun image cpus done → CanCount (left_by image cpus done)
-counts-known image cpus described short done run =
-    let most = short image cpus done described run in let light = described.lawful.light in can-count image done (omega (arith, most, light)) cpus
+pub counts-known : (image : Image) (cpus : ℕ) → IsDescribed image → cpus ≤ 8 → AreShort → (done : List FineStep) → IsFineRun image cpus done → CanCount (left_by image cpus done)
+counts-known image cpus described few short done run =
+    let most = short image cpus done described few run in let light = described.lawful.light in can-count image done (omega (arith, most, light)) cpus
 
 -- where no step of any processor is next, the run is over
 pub nobody-steps : (image : Image) (cpus : ℕ) → IsDescribed image → CanRun image cpus → AreShort → (done : List FineStep) → IsFineRun image cpus done
     → ((k : ℕ) → k < cpus → NoneIsNext image cpus done k) → IsOver image cpus done
 nobody-steps image cpus described can short done run none e follows =
-    chosen-runs image cpus described can done run (counts-known image cpus described short done run)
+    chosen-runs image cpus described can done run (counts-known image cpus described can.few short done run)
     (λ g by takes chosen. none g.cpu by.named g refl (record { follows = record { makes = by; takes = takes }; chosen = chosen })) e follows.makes follows.takes

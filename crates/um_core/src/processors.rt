@@ -8,7 +8,7 @@ ghost use Rattle.um_steps.specs.Given.{IsGiven};
 ghost use Rattle.um_processor.specs.{Idles.{is_turn}, Standing.{whole}};
 ghost use Rattle.um_core.specs.{
   Cores.{IsOpened},
-  CoreSteps.{AllHalt, FirstSteps, GoesOn, HasMoved, HasPassed, HasTended, HasTurned, IsCoreOf, IsTurnRefused, is_made, processor_at},
+  CoreSteps.{AllHalt, FirstSteps, GoesOn, Halts, HasMoved, HasPassed, HasTended, HasTurned, IsCoreOf, IsTurnRefused, Steps, is_made, processor_at},
   PickedRun.{NoneIsNext},
 };
 
@@ -157,6 +157,21 @@ impl Core {
         self.is_idle(cpu) && self.tend(image, cpu)
     }
 
+    /// Has a processor make its next step that is chosen, if it has one.
+    fn advance(&mut self, image: &Image, cpu: u8) -> bool
+        requires given { IsGiven image.now }
+        requires rodata { self.old.sites.rodata ≡ rodata_of image.now }
+        requires cpu { cpu < length self.old.processors }
+        ensures rodata { self.new.sites.rodata ≡ rodata_of image.now }
+        ensures moves { HasMoved result image.now cpu self.old self.new }
+    {
+        match self.turn(image, cpu) {
+            Turn::Made => true,
+            Turn::Busy => self.tend_if_idle(image, cpu),
+            Turn::Changed | Turn::Stuck => false,
+        }
+    }
+
     /// Has a processor make its next step, if it can make one now that is chosen. Returns whether it did. If so, that step continues the fine
     /// run so far; if not, no step of that processor is next. It takes no memory.
     #[inline(always)]
@@ -165,18 +180,16 @@ impl Core {
         requires rodata { self.old.sites.rodata ≡ rodata_of image.now }
         requires cpu { cpu < length self.old.processors }
         ensures rodata { self.new.sites.rodata ≡ rodata_of image.now }
-        ensures moves { HasMoved result image.now cpu self.old self.new }
+        ensures steps { result ≡ true → Steps image.now cpu self.old self.new }
+        ensures same { result ≡ false → self.new ≡ self.old }
+        ensures halts { result ≡ false → Halts image.now self.old cpu }
         ensures goes { (cpus : ℕ) (done : List FineStep) → IsCoreOf image.now cpus done self.old
             → cpu < cpus → result ≡ true → GoesOn image.now cpus done cpu self.new }
         ensures none { (cpus : ℕ) (done : List FineStep) → IsCoreOf image.now cpus done self.old
             → cpu < cpus → result ≡ false → NoneIsNext image.now cpus done cpu }
     {
         longest_fine_run();
-        match self.turn(image, cpu) {
-            Turn::Made => true,
-            Turn::Busy => self.tend_if_idle(image, cpu),
-            Turn::Changed | Turn::Stuck => false,
-        }
+        self.advance(image, cpu)
     }
 
     /// Has the first processor that can make a step now make it, from this one on, going round. Returns whether one did.

@@ -19,6 +19,6 @@ returns-clause-run c = λ image cpus pick steps described run.
 pub returns-clause-complete : goal.returns-clause-complete
 returns-clause-complete c = λ image cpus pick steps described can run.
     let fine = picked-fine image cpus pick steps run in
-    let few = c.longest_fine_run.ensures image cpus steps described fine in
+    let few = c.longest_fine_run.ensures image cpus steps described can.few fine in
     let light = described.lawful.light in
     c.every_fine_run.ensures.complete image cpus steps described can fine (λ e by takes. run.over e (record { makes = by; takes = takes })) (can-count image steps (omega (arith, few, light)) cpus)

@@ -23,7 +23,7 @@ returns c =
     (λ sites stopped.
     let steps = stopped.steps in
     let fine = c.every_order.ensures.fine image c.args.cpus c.args.pick steps stopped.picked in
-    let most = c.longest_fine_run.ensures image c.args.cpus steps given fine in
+    let most = c.longest_fine_run.ensures image c.args.cpus steps given can.few fine in
     let light = given.lawful.light in
     let counts = can-count image steps (omega (arith, most, light)) c.args.cpus in
     let end = c.every_closing.ensures.complete image c.args.cpus steps given can fine (λ e by takes. stopped.picked.over e (record { makes = by; takes = takes })) counts in
