@@ -1,8 +1,8 @@
 //! A processor at its place at a board.
 
-ghost use Rattle.std.specs.Prelude.{◌≡◌};
+ghost use Rattle.std.specs.Prelude.{◌≡◌, true, false};
 ghost use Rattle.um_board.specs.{Placed.{IsAt}, Seated.{KeepsPlace}};
-ghost use Rattle.um_cpu.specs.{Cpus.{Tells}, Playing.{AskedOnce, CanPlay, GoesOnTo, IsPlaying, Rested, Worked}};
+ghost use Rattle.um_cpu.specs.{Cpus.{Tells}, Playing.{AskedOnce, CanPlay, GoesOnTo, IsPlaying, Rested, Tended, Waited, Worked}};
 
 use crate::turn::Turn;
 use um_base::Image;
@@ -51,6 +51,8 @@ impl<'a> Cpu<'a> {
         ensures place { IsAt image.now self.new.place }
         ensures keeps { KeepsPlace self.old.place.seat self.new.place.seat }
         ensures goes { GoesOnTo image.now self.old self.new }
+        ensures tended { result ≡ false → Tended image.now self.old self.new }
+        ensures waited { result ≡ true → Waited self.old self.new }
         ensures stands { IsPlaying image.now self.new }
     {
         match self.processor.give(image, self.number, &mut self.place) {
