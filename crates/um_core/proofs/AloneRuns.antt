@@ -1,5 +1,5 @@
 -- A core of one processor goes on, one step after another. Its run is over when the processor halts, and it is then that of every pick.
-use Rattle.std.proofs.Common.{◌≡◌, ℕ, ◌+◌, ◌<◌, ◌≤◌, List, [], ◌∷◌, ◌++◌, length, Option, length-append, refl, ap, ◌∙◌, subst, arith}
+use Rattle.std.proofs.Common.{◌≡◌, ℕ, ◌+◌, ◌≤◌, List, [], ◌∷◌, ◌++◌, length, Option, length-append, refl, ap, ◌∙◌, subst, arith}
 use Rattle.um_base.specs.declared.image.Image.{Image}
 use Rattle.um_base.specs.Weight.{weight}
 use Rattle.um_invariants.specs.Described.{IsDescribed}

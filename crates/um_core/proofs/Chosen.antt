@@ -1,7 +1,7 @@
 -- The choice is between kinds of steps: of one processor at one moment, two lawful steps that are chosen are of one kind. Who has a list takes no part in
 -- it. Of the others, one that takes a thread has one that is ready, and one that is given a mark has one that is due.
 use Rattle.std.proofs.Common.{◌≡◌, ◌≢◌, ℕ, Bool, true, false, List, [], ◌∷◌, Option, Some, None, refl, sym, ap, ◌∙◌, subst}
-use Rattle.std.specs.Prelude.{◌&&◌, ◌||◌, not, IsTrue, if◌then◌else◌, is_some}
+use Rattle.std.specs.Prelude.{◌||◌, not, IsTrue, if◌then◌else◌, is_some}
 use Rattle.std.proofs.lemmas.Bool.{and_parts, false≢true, true≢false}
 use Rattle.um_base.specs.declared.act.Act.{Act}
 use Rattle.um_base.specs.declared.image.Image.{Image}

@@ -1,6 +1,6 @@
 -- If a core is as a fine run has left it, each step of its processors continues the run and is chosen, and a processor that halts has none that is next.
-use Rattle.std.proofs.Common.{◌≡◌, ◌≢◌, ◌⊎◌, inl, inr, ℕ, ◌<◌, ◌≤◌, Bool, true, false, List, [], ◌∷◌, ◌++◌, length, refl, sym, ap, ◌∙◌, subst, arith}
-use Rattle.std.proofs.lemmas.Bool.{false≢true, true≢false}
+use Rattle.std.proofs.Common.{◌≡◌, ◌≢◌, ◌⊎◌, inl, inr, ℕ, ◌<◌, Bool, true, false, List, [], ◌∷◌, ◌++◌, length, refl, sym, ap, ◌∙◌, subst, arith}
+use Rattle.std.proofs.lemmas.Bool.{true≢false}
 use Rattle.um_base.specs.declared.image.Image.{Image}
 use Rattle.um_machine.specs.State.{State}
 use Rattle.um_fine.specs.Answers.{is_due_act, is_tick}
@@ -21,7 +21,7 @@ use Rattle.um_core.specs.Cores.{Core, Stands}
 use Rattle.um_core.specs.PickedRun.{MayFollow, NoneIsNext, processor_after}
 use Rattle.um_core.proofs.ChoiceKnown.{due-none, ready-none}
 use Rattle.um_core.proofs.Chosen.{both-alike, due-no-tick, listed-untimed, tick-no-due, turn-untimed}
-use Rattle.um_core.proofs.CoreRefusals.{asked-made, has-none, is-p, shut-none}
+use Rattle.um_core.proofs.CoreRefusals.{has-none, is-p, shut-none}
 use Rattle.um_core.proofs.LeftKnown.{IsLeft, left-some}
 use Rattle.um_core.proofs.OneRun.{fine-more}
 use Rattle.um_core.proofs.Refusals.{AreShort, NoneFollows, counts-known, may}

@@ -1,5 +1,5 @@
 -- What comes of a processor's turns one after another: it takes its turn, is given a mark, or lets time go on.
-use Rattle.std.proofs.Common.{◌≡◌, ℕ, Bool, true, false, [], sym, subst}
+use Rattle.std.proofs.Common.{◌≡◌, ℕ, Bool, true, false, [], subst}
 use Rattle.std.proofs.lemmas.Bool.{false≢true, true≢false}
 use Rattle.um_base.specs.declared.image.Image.{Image}
 use Rattle.um_fine.specs.Answers.{is_due_act, is_tick}

@@ -1,5 +1,5 @@
 -- No step of a core's processor may follow where its tables refuse one of that kind that it asks for, or where it has nothing that it could ask for.
-use Rattle.std.proofs.Common.{◌≡◌, ℕ, ◌-◌, ◌<◌, ◌≤◌, false, List, length, true, ap, arith, subst}
+use Rattle.std.proofs.Common.{◌≡◌, ℕ, ◌<◌, ◌≤◌, false, List, length, true, ap, arith, subst}
 use Rattle.std.specs.Prelude.{IsTrue, nat_le}
 use Rattle.um_base.specs.declared.act.Event.{Event}
 use Rattle.um_base.specs.declared.image.Image.{Image}

@@ -4,7 +4,6 @@ use Rattle.std.proofs.Common.{◌≡◌, ℕ, suc, ◌+◌, ◌<◌, ◌≤◌, 
 use Rattle.std.specs.Prelude.{◌&&◌, if◌then◌else◌}
 use Rattle.std.proofs.lemmas.Bool.{lt-ltb}
 use Rattle.um_base.specs.declared.act.Act.{Act}
-use Rattle.um_base.specs.declared.act.SetSaid.{SetSaid}
 use Rattle.um_base.specs.declared.image.Image.{Image}
 use Rattle.um_base.specs.declared.names.Errno.{Errno}
 use Rattle.um_machine.specs.State.{is_living}
@@ -14,7 +13,7 @@ use Rattle.um_words.specs.declared.row_word.RowWord.{RowWord}
 use Rattle.um_words.specs.declared.thread_word.ThreadWord.{ThreadWord}
 use Rattle.um_words.specs.declared.dom_word.DomWord.{DomWord}
 use Rattle.um_words.specs.Domains.{domain_after, domain_after_act}
-use Rattle.um_words.specs.Rows.{after_set, after_verdict, gone_stage, has, is_last, is_live, permitted, row_after, row_after_act}
+use Rattle.um_words.specs.Rows.{after_verdict, gone_stage, has, is_last, is_live, permitted, row_after, row_after_act}
 use Rattle.um_words.specs.Threads.{thread_after, thread_after_act}
 use Rattle.um_fine.specs.Cells.{Cell}
 use Rattle.um_fine.specs.FineRun.{site_of}

@@ -59,9 +59,10 @@ module _ (image : Image) where
     all-picked : (s : S) (done h : List FineStep) → IsFineRun image 1 (done ++ h) → AreChosenBehind image 1 done h → ArePicked image 1 done (from s (length h)) h
     all-picked s done [] run chosen = subst (λ firsts. ArePicked image 1 done firsts []) (sym (none s)) tt
     all-picked s done (e ∷ h) run chosen =
-        subst (λ firsts. ArePicked image 1 done firsts (e ∷ h)) (sym (more s (length h)))
-        (picks-it (first s) done e (record { follows = follows-in image 1 done e h run; chosen = chosen.0 }),
-        all-picked (rest s) (done ++ e ∷ []) h (subst (IsFineRun image 1) (sym (append_assoc done (e ∷ []) h)) run) chosen.1)
+        subst (λ firsts. ArePicked image 1 done firsts (e ∷ h)) (sym (more s (length h))) (
+          picks-it (first s) done e (record { follows = follows-in image 1 done e h run; chosen = chosen.0 }),
+          all-picked (rest s) (done ++ e ∷ []) h (subst (IsFineRun image 1) (sym (append_assoc done (e ∷ []) h)) run) chosen.1,
+        )
 
   pub picked-whole : (pick : Option ℕ) (steps : List FineStep) → IsFineRun image 1 steps → AreChosen image 1 steps → IsOver image 1 steps → IsPickedRun image 1 pick steps
   picked-whole None steps run chosen over =

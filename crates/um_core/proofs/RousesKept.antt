@@ -1,13 +1,11 @@
 -- Who is roused is a thread that there is: a rouse comes of an event that names one, or of a thread that goes to sleep.
-use Rattle.std.proofs.lemmas.Bool.{true≢false, and_from, and_parts, eqb-true, false≢true}
-use Rattle.std.proofs.Common.{◌≡◌, ℕ, ◌+◌, ◌<◌, Bool, true, false, cond, List, [], ◌∷◌, ◌++◌, Option, Some, None, refl, sym, ap, ◌∙◌, subst}
+use Rattle.std.proofs.lemmas.Bool.{and_from, and_parts, false≢true}
+use Rattle.std.proofs.Common.{◌≡◌, ℕ, ◌+◌, Bool, true, false, List, [], ◌∷◌, ◌++◌, Option, Some, None, refl, sym, subst}
 use Rattle.std.specs.Prelude.{◌==◌, ◌&&◌, not, if◌then◌else◌, nat_lt}
 use Rattle.std.specs.List.{list_all}
 use Rattle.um_base.specs.declared.limits.TheConstants.{ROWS, THREADS}
-use Rattle.um_base.specs.declared.act.Act.{Act}
 use Rattle.um_base.specs.declared.act.Answer.{Answer}
-use Rattle.um_fine.specs.Steps.{Exchange, FineStep, Site}
-use Rattle.um_words.specs.declared.fine.FineAct.{FineAct}
+use Rattle.um_fine.specs.Steps.{Exchange, FineStep}
 use Rattle.um_base.specs.declared.image.Image.{Image}
 use Rattle.um_machine.specs.declared.pending.Pending.{Pending}
 use Rattle.um_machine.specs.Order.{Steps}
@@ -23,7 +21,6 @@ use Rattle.um_fine.specs.Asks.{begins_cleaning}
 use Rattle.um_fine.specs.Continues.{continues}
 use Rattle.um_base.specs.Places.{own_row}
 use Rattle.um_fine.specs.Addresses.{row_named}
-use Rattle.um_words.specs.declared.fine.Mark.{Mark}
 use Rattle.um_words.specs.Threads.{is_awake}
 use Rattle.um_fine.specs.Answers.{is_done_in, is_killed, is_void, woken_in}
 use Rattle.um_fine.specs.Follows.{looks_behind, looks_for, rereads, shown_step, told_all, told_marked, waits_behind}

@@ -1,5 +1,5 @@
 -- Setting a site of the tables to a state of its sort: that state stands there then, and every other site is as before.
-use Rattle.std.proofs.Common.{◌≡◌, ℕ, ◌<◌, true, false, List, [], ◌++◌, length, refl, sym, ap, ◌∙◌, append-nil, arith}
+use Rattle.std.proofs.Common.{◌≡◌, ℕ, ◌<◌, false, List, [], ◌++◌, length, refl, sym, ap, ◌∙◌, append-nil, arith}
 use Rattle.std.specs.Prelude.{◌==◌, IsTrue, nat_lt}
 use Rattle.std.proofs.lemmas.Bool.{eqb-false, false≢true, ltb-true, true≢false}
 use Rattle.std.proofs.lemmas.List.{get_or-set_other, get_or-set_same, length-set}

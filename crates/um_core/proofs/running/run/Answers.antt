@@ -1,4 +1,4 @@
-use Rattle.std.proofs.Common.{◌≡◌, ℕ, List, ap, arith, length, subst, sym}
+use Rattle.std.proofs.Common.{List, ap, arith, length, subst, sym}
 use Rattle.std.proofs.lemmas.Result.{IfOk-weaker}
 use Rattle.um_base.specs.declared.act.Event.{Event}
 use Rattle.um_invariants.specs.Described.{IsDescribed}
@@ -6,7 +6,7 @@ use Rattle.um_machine.specs.Run.{IsRun}
 use Rattle.um_machine.specs.State.{State}
 use Rattle.um_refinement.specs.After.{left_by}
 use Rattle.um_refinement.specs.Room.{CanRun}
-use Rattle.um_tables.specs.Sited.{Sited, state_at}
+use Rattle.um_tables.specs.Sited.{state_at}
 use Rattle.um_closing.specs.Agreement.{AgreeInDump}
 use Rattle.um_core.specs.Ended.{HasEnded, HasStopped}
 use Rattle.um_core.proofs.Counts.{can-count}

@@ -1,6 +1,6 @@
 use Rattle.std.proofs.Common.{◌≡◌, arith, ap, sym, subst, Bool}
 use Rattle.um_fine.specs.Scheduler.{Scheduler}
-use Rattle.um_core.specs.CoreSteps.{HasPassed, is_made, scheduler_there}
+use Rattle.um_core.specs.CoreSteps.{HasPassed, scheduler_there}
 use Rattle.um_core.specs.Cores.{Core}
 use Rattle.um_core.proofs.CoreMoves.{has-passed}
 use Rattle.um_core.proofs.processors.Core.pass.Goals as goal
