@@ -75,35 +75,36 @@ fn run_all<R: Threads + Wait + Sync, G: Gate + Sync>(
     );
 }
 
-/// Joins the processors' seats, and collects their logs, for which there is room.
+/// Joins the seats of the other processors to that of the first one, which it returns, and collects the logs, for which there is room.
 fn gather(
     image: &Image,
     board: &Board<Contents, NextStep>,
-    seat: &mut Seat<Contents>,
     cpus: &mut Vec<Cpu<'_>>,
     logs: &mut Vec<Log>,
-)
+) -> Seat<Contents>
     requires ends { EachAt (Ends image.now board.now.table.shared.table_id) cpus.old.items }
-    requires seat { Gathered image.now board.now.table.shared.table_id seat.old (length cpus.old.items)
-        (length cpus.old.items) [] }
     requires few { length cpus.old.items ≤ 8 }
     requires empty { logs.old.items ≡ [] }
     requires room { length cpus.old.items ≤ vec_capacity logs.old }
-    ensures { Gathered image.now board.now.table.shared.table_id seat.new 0
+    ensures { Gathered image.now board.now.table.shared.table_id result 0
         (length cpus.old.items) logs.new.items }
 {
     let _ = image;
-    'cpus: while let Some(cpu) = cpus.pop() {
-        let Cpu {
-            number: _,
-            processor: _,
-            place,
-        } = cpu;
-        let (own, log) = place.into_parts();
-        board.join(seat, own);
+    while cpus.len() > 1 {
+        let Some(cpu) = cpus.pop() else {
+            unreachable!()
+        };
+        let (own, log) = cpu.place.into_parts();
+        board.join(&mut cpus.as_mut_slice()[0].place.seat, own);
         logs.push_reserved(log);
     }
+    let Some(first) = cpus.pop() else {
+        unreachable!()
+    };
+    let (seat, log) = first.place.into_parts();
+    logs.push_reserved(log);
     logs.reverse();
+    seat
 }
 
 /// Runs this many processors on a board of the image to their end, each in a thread of its own if one can be made. Each log has room for
@@ -127,19 +128,19 @@ pub fn run_cpus<R: Threads + Wait + Sync, G: Gate + Sync>(
     let _domains = image.domains.len();
     let bytes = rodata(alloc, image)?;
     let mut logs = Vec::with_capacity(alloc, cpus as usize)?;
-    let (board, mut seat, cells) = opening(alloc, image, most.saturating_add(1))?;
+    let (board, seat, cells) = opening(alloc, image, most.saturating_add(1))?;
     let mut all = seats(
         alloc,
         image,
         &board,
         &cells,
         bytes.as_slice(),
-        &mut seat,
+        seat,
         cpus,
         most,
     )?;
     run_all(rt, image, &board, all.as_mut_slice(), gate);
-    gather(image, &board, &mut seat, &mut all, &mut logs);
+    let seat = gather(image, &board, &mut all, &mut logs);
     drop(all);
     let Ok(closed) = board.close(seat) else {
         unreachable!()
