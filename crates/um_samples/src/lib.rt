@@ -28,6 +28,7 @@ macro_rules! empty_image {
             objects: um_base::BoundedVec::new($alloc),
             boots: um_base::BoundedVec::new($alloc),
             scripts: um_base::BoundedVec::new($alloc),
+            futexes: um_base::BoundedVec::new($alloc),
         }
     };
 }
