@@ -58,6 +58,8 @@ saw-first s mid a b i w u saw =
         opening = of.opening ∙ ap (λ (q : KeptPlace). q.opening) k;
         name = of.name ∙ ap (λ (q : KeptPlace). q.name) k;
         made = of.made ∙ u.made;
+        children = of.children ∙ ap (λ (q : KeptPlace). q.children) k;
+        lists = of.lists ∙ ap (λ (q : KeptPlace). q.lists) k;
         filled = of.filled ∙ ap (λ (q : KeptPlace). q.filled) k;
       };
       moment = saw.moment;

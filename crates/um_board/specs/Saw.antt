@@ -33,12 +33,14 @@ GotSince old new i w = (more : List (ℕ × ℕ)) × (new ≡ more ++ old) × Wa
 abbrev pub Got : Seat Known → Seat Known → ℕ → ℕ → Type 0
 Got s t i w = GotSince s.token.me.0.got t.token.me.0.got i w
 
--- The seat has the steps, the name and the cells of this view.
+-- The seat has the steps, the name, the cells, and the seats split off and joined, of this view.
 pub record IsOfView (s : Seat Known) (v : View) : Type 0 where
   pub image : v.image ≡ s.token.me.0.image
   pub opening : v.opening ≡ s.token.me.0.opening
   pub name : v.name ≡ s.token.me.0.name
   pub made : v.made ≡ s.token.me.0.made
+  pub children : v.children ≡ s.token.me.0.children
+  pub lists : v.joined ≡ s.token.me.0.joined
   pub filled : v.filled ≡ s.token.me.0.filled
 
 -- The board's rule held with this word at the site i, at a moment at which the seat had made the steps that it has made.

@@ -19,7 +19,7 @@ use Rattle.um_board.proofs.seated.Seated.turn_at_once.Goals as goal
 -- the turn was taken at some moment, when the cell had these contents
 saw-at : (s t : Seat Known) (i w : ℕ) (c : Known) → w % 2 ≡ 0 → Took Opens Follows NextGoes s.token.me.0 i w (Some c) t.token.me.0 → SawCell s i w c
 saw-at s t i w c free took =
-    record { saw = record { view = s.token.me.0; of = record { image = refl; opening = refl; name = refl; made = refl; filled = refl }; moment = took.moment }; free = free; contents = took.contents }
+    record { saw = record { view = s.token.me.0; of = record { image = refl; opening = refl; name = refl; made = refl; children = refl; lists = refl; filled = refl }; moment = took.moment }; free = free; contents = took.contents }
 
 -- it was taken, and given back at once
 took-none : (s t u : Seat Known) (i j w : ℕ) (c : Known) (log : List Logged) → SameSeat s t → Took Opens Follows NextGoes s.token.me.0 i w (Some c) t.token.me.0
