@@ -13,6 +13,7 @@ use Rattle.um_merge.specs.declared.logged.Logged.{Logged}
 use Rattle.um_words.specs.declared.fine.FineAct.{FineAct}
 use Rattle.um_processor.specs.Processors.{Goes}
 use Rattle.um_processor.specs.Wants.{Wants}
+use Rattle.um_refinement.specs.Choice.{AreChosen}
 use Rattle.um_site.specs.Tells.{NoOlder}
 use Rattle.um_site.specs.declared.seat.Seat.{Seat}
 use Rattle.um_board.specs.Contents.{Known}
@@ -30,11 +31,18 @@ use Rattle.um_cpu.specs.declared.turn.Turn.{Turn}
 abbrev pub IsLeft : Seat Known → FineStep → Type 0
 IsLeft seat e = WasGot seat.token.me.0.got (site_number e.site) (packed e.word)
 
--- The processor k has made these steps at its seat, and stands where they lead.
+-- The seat is the first one of its board, has split off none, and has taken in none.
+pub record IsAlone (seat : Seat Known) : Type 0 where
+  pub name : seat.token.me.0.name ≡ []
+  pub children : seat.token.me.0.children ≡ []
+  pub lists : seat.token.me.0.joined ≡ []
+
+-- The processor k has made these steps at its seat, and stands where they lead. If its seat is alone, each step was chosen.
 pub record HasMade (image : Image) (k : ℕ) (p : Processor) (seat : Seat Known) (log : List Logged) (steps : List FineStep) : Type 0 where
   pub played : Played image k seat.token.me.0.made log steps
   pub stands : p ≡ ends (p_next image) idle steps
   pub known : Each (IsLeft seat) steps
+  pub chosen : IsAlone seat → AreChosen image 1 steps
 
 -- The processor k, which is one of eight, has made some steps at the seat of its name, on a board that opened as the image's does.
 pub record Stands (image : Image) (k : ℕ) (p : Processor) (seat : Seat Known) (log : List Logged) : Type 0 where
