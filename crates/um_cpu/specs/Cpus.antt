@@ -23,19 +23,13 @@ use Rattle.um_board.specs.Opening.{AreOpening}
 use Rattle.um_board.specs.ReadBack.{fine_at}
 use Rattle.um_board.specs.Saw.{OthersAt, WasGot}
 use Rattle.um_board.specs.Seated.{Noted, Unnoted}
-use Rattle.um_history.specs.Fine.{Stood, WasRefused, left_at}
+use Rattle.um_history.specs.Fine.{IsAlone, Stood, WasRefused, left_at}
 use Rattle.um_history.specs.Played.{Each, Played, SCHEDULER, SawQuiet}
 use Rattle.um_cpu.specs.declared.turn.Turn.{Turn}
 
 -- the word that the step left was got at its site
 abbrev pub IsLeft : Seat Known → FineStep → Type 0
 IsLeft seat e = WasGot seat.token.me.0.got (site_number e.site) (packed e.word)
-
--- The seat is the first one of its board, has split off none, and has taken in none.
-pub record IsAlone (seat : Seat Known) : Type 0 where
-  pub name : seat.token.me.0.name ≡ []
-  pub children : seat.token.me.0.children ≡ []
-  pub lists : seat.token.me.0.joined ≡ []
 
 -- The processor k has made these steps at its seat, and stands where they lead. If its seat is alone, each step was chosen.
 pub record HasMade (image : Image) (k : ℕ) (p : Processor) (seat : Seat Known) (log : List Logged) (steps : List FineStep) : Type 0 where

@@ -31,6 +31,7 @@ use Rattle.um_board.specs.ReadBack.{fine_at, unpacked}
 use Rattle.um_board.proofs.Saws.{and-no}
 use Rattle.um_board.specs.Saw.{Got, SawAt, SawShut}
 use Rattle.um_history.specs.Fine.{Stood, WasRefused, left_at}
+use Rattle.um_history.proofs.Alone.{alone-run}
 use Rattle.um_history.proofs.CellRuns.{CellKnown, cell-reads, word-number}
 use Rattle.um_history.proofs.Hindered.{as-cell, cell-far}
 use Rattle.um_history.proofs.QuietEnd.{no-length}
@@ -147,6 +148,7 @@ module _ (image : Image) (described : IsDescribed image) (can : CanRun image 8) 
           left = word-stood image described can longest k s seat (site_number e.site) w saw e.site there refl;
           refuses = here.refuses;
           held_up = held-shut image described all run st.run st.few k seat.few e (asks run st) here;
+          alone = alone-run image described can longest k s seat (site_number e.site) w saw;
         }
 
     pub refused : SawShut image s t e → WasRefused image k s t e
@@ -178,4 +180,5 @@ module _ (image : Image) (described : IsDescribed image) (can : CanRun image 8) 
           left = word;
           refuses = ap (λ (x : SiteState). site_takes x e.act) here ∙ none-taken found.0 found.1 e.act next found.3;
           held_up = held-none image described all run st.run st.few k seat.few e (asks run st) next;
+          alone = alone-run image described can longest k s seat i w saw;
         }

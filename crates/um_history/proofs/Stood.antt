@@ -49,13 +49,13 @@ module _ (image : Image) (described : IsDescribed image) (can : CanRun image 8) 
         filled = λ j far near. subst (λ (l : List ℕ). AmongCells l j) (sym saw.of.filled) (seat.filled j far near);
       }
 
-  abbrev words : List ℕ
+  abbrev pub words : List ℕ
   words = saw.moment.words
 
-  abbrev entries : List Entry
+  abbrev pub entries : List Entry
   entries = history image v i w moment
 
-  abbrev of : IsHistoryOf image 8 words entries
+  abbrev pub of : IsHistoryOf image 8 words entries
   of = of-moment image v i w moment
 
   well : OpensWell image

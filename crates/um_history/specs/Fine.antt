@@ -48,8 +48,15 @@ pub data IsHeldUp (f : Fine) (k : ℕ) : Type 0 where
   idle : (f.processors k).todo ≡ [] → IsHeldUp f k
   waits : WaitsFor f k → IsHeldUp f k
 
+-- The seat is the first one of its board, has split off none, and has taken in none.
+pub record IsAlone (s : Seat Known) : Type 0 where
+  pub name : s.token.me.0.name ≡ []
+  pub children : s.token.me.0.children ≡ []
+  pub lists : s.token.me.0.joined ≡ []
+
 -- At some moment of a call the site of the step refused it, in the state in which the fine run of that moment had left it; the seat read
--- the word that the run had left there. After that run the processor is held up.
+-- the word that the run had left there. After that run the processor is held up. If the seat is alone, that run has the steps of its
+-- processor, and no others.
 pub record WasRefused (image : Image) (k : ℕ) (s t : Seat Known) (e : FineStep) : Type 0 where
   pub word : ℕ
   pub got : Got s t (site_number e.site) word
@@ -58,3 +65,4 @@ pub record WasRefused (image : Image) (k : ℕ) (s t : Seat Known) (e : FineStep
   pub left : packed (word_of (left_at image run e.site)) ≡ bare (site_number e.site) word
   pub refuses : Refuses (left_at image run e.site) e
   pub held_up : IsHeldUp (left_by image 8 run) k
+  pub alone : IsAlone s → run ≡ map (fine_at k) s.token.me.0.made
