@@ -1,8 +1,12 @@
 -- A processor at a board, from its seat to its end. SplitOff and Gathers have what a seat knows when it is split off and when it is joined;
--- Advances, how a processor goes on there; Asks, after it, what comes of asking once for its next step. Shows is about the logs when all have
--- ended. Slots says what stands there at a number. Crosses stands by itself: what may go to another thread.
+-- Advances, how a processor goes on there. Runs has what is known of every fine run; Choosing, after it, when a step is a chosen one, and Asks
+-- what comes of asking once for the next step, and Turns of a turn, whatever it is for. Shows is about the logs when all have ended. Slots says what stands there at a number. Crosses
+-- stands by itself: what may go to another thread.
 pub mod Advances
+pub mod Runs
+pub mod Choosing
 pub mod Asks
+pub mod Turns
 pub mod Crosses
 pub mod Gathers
 pub mod Shows

@@ -22,7 +22,7 @@ use Rattle.um_board.specs.Noted.{packed}
 use Rattle.um_board.specs.Opening.{AreOpening}
 use Rattle.um_board.specs.ReadBack.{fine_at}
 use Rattle.um_board.specs.Saw.{OthersAt, WasGot}
-use Rattle.um_board.specs.Seated.{Noted, Unnoted}
+use Rattle.um_board.specs.Seated.{KeepsPlace, Noted, Unnoted}
 use Rattle.um_history.specs.Fine.{IsAlone, Stood, WasRefused, left_at}
 use Rattle.um_history.specs.Played.{Each, Played, SCHEDULER, SawQuiet}
 use Rattle.um_cpu.specs.declared.turn.Turn.{Turn}
@@ -73,6 +73,7 @@ NoneLeft word = ((cell_of word).running ≡ 0) × ((cell_of word).owed ≡ 0)
 pub record Rests (image : Image) (k : ℕ) (p q : Processor) (s : Seat Known) (old : List Logged) (t : Seat Known) (new : List Logged) (word : ℕ) : Type 0 where
   pub idle : p.todo ≡ []
   pub same : q ≡ p
+  pub keeps : KeepsPlace s t
   pub made : t.token.me.0.made ≡ s.token.me.0.made
   pub log : new ≡ old
   pub got : (looked : List (ℕ × ℕ)) × (t.token.me.0.got ≡ looked ++ (SCHEDULER, word) ∷ s.token.me.0.got)

@@ -1,13 +1,16 @@
 //! A processor at its place at a board.
 
-ghost use Rattle.std.specs.Prelude.{◌≡◌, true, false};
-ghost use Rattle.um_board.specs.{Placed.{IsAt}, Seated.{KeepsPlace}};
+ghost use Rattle.std.specs.Prelude.{◌≡◌, [], true, false};
+ghost use Rattle.um_words.specs.Packed.{cell_of};
+ghost use Rattle.um_processor.specs.Standing.{whole};
+ghost use Rattle.um_board.specs.{Placed.{IsAt}, Saw.{SawAt}, Seated.{KeepsPlace}};
 ghost use Rattle.um_cpu.specs.{Cpus.{Tells}, Playing.{AskedOnce, CanPlay, GoesOnTo, IsPlaying, Rested, Tended, Waited, Worked}};
 
 use crate::turn::Turn;
 use um_base::Image;
 use um_board::Seated;
 use um_fine_measure::longest_fine_run;
+use um_measure::every_deadline;
 use um_processor::{Processor, Turn as Asked};
 use um_refinement::every_fine_run;
 use um_words::CellWord;
@@ -34,6 +37,7 @@ impl<'a> Cpu<'a> {
     {
         every_fine_run();
         longest_fine_run();
+        every_deadline();
         match self.processor.step(image, self.number, &mut self.place) {
             Asked::Made | Asked::Busy | Asked::Changed => {}
             Asked::Stuck => {
@@ -43,10 +47,14 @@ impl<'a> Cpu<'a> {
         }
     }
 
-    /// Tends to time, where it has no thread, none was ready, and marks were owed: takes a mark that is due. Where none is, and no thread ran,
-    /// it lets time go on. Returns whether it waits: then no mark was due, and a thread ran or no deadline was to come.
-    fn tend(&mut self, image: &Image, none_ran: bool) -> bool
-        requires { CanPlay image.now self.old }
+    /// Tends to time, where it has no thread, and by this word of the scheduler, at which its seat has just looked, none is ready: takes a mark that
+    /// is due. Where none is, and by the word no thread runs, it lets time go on. Returns whether it waits: then no mark was due, and a thread ran
+    /// or no deadline was to come.
+    fn tend(&mut self, image: &Image, word: u64) -> bool
+        requires can { CanPlay image.now self.old }
+        requires empty { (whole self.old.processor).todo ≡ [] }
+        requires saw { SawAt self.old.place.seat 306 word }
+        requires none { (cell_of word).ready ≡ 0 }
         ensures number { self.new.number ≡ self.old.number }
         ensures place { IsAt image.now self.new.place }
         ensures keeps { KeepsPlace self.old.place.seat self.new.place.seat }
@@ -55,11 +63,14 @@ impl<'a> Cpu<'a> {
         ensures waited { result ≡ true → Waited self.old self.new }
         ensures stands { IsPlaying image.now self.new }
     {
+        every_fine_run();
+        longest_fine_run();
+        every_deadline();
         match self.processor.give(image, self.number, &mut self.place) {
             Asked::Busy => {}
             Asked::Made | Asked::Changed | Asked::Stuck => return false,
         }
-        if !none_ran {
+        if CellWord::read(word).running > 0 {
             return true;
         }
         match self.processor.tick(image, self.number, &mut self.place) {
@@ -82,7 +93,9 @@ impl<'a> Cpu<'a> {
         ensures told { Tells result (Worked image.now self.old self.new)
             (Rested image.now self.old self.new) }
     {
+        every_fine_run();
         longest_fine_run();
+        every_deadline();
         if !self.processor.is_idle() {
             self.ask(image);
             return Turn::Did;
@@ -93,7 +106,7 @@ impl<'a> Cpu<'a> {
             self.ask(image);
             return Turn::Did;
         }
-        if says.owed > 0 && !self.tend(image, says.running == 0) {
+        if says.owed > 0 && !self.tend(image, word) {
             return Turn::Did;
         }
         if says.running == 0 && says.owed == 0 {
