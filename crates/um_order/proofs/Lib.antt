@@ -42,5 +42,9 @@ mod Settled
 mod FullKept
 mod BesideFull
 mod OneStep
+mod OneAct
+mod ThreadsMoved
+mod CallsMoved
+mod CallsKept
 mod OneKept
 mod OneRuns
