@@ -16,10 +16,10 @@ use um_base::{Act, Event, THREADS, ThreadIx};
 use um_image::read_image;
 use um_machine::Pending;
 use um_matrix::{Matrix, Tables};
-use um_samples::{DOMAINS, HALT, OBJECTS, RACE, described};
+use um_samples::{DOMAINS, FUTEX_WAKE, HALT, OBJECTS, RACE, described};
 
-/// How many kinds of events a description's lines may lead to. No line that is read aborts, joins or suspends a thread, or is about a futex.
-const KINDS: usize = 40;
+/// How many kinds of events there are.
+const KINDS: usize = 49;
 
 /// `a` waits in vain for a semaphore, and then for a timer; `b` waits longer, and `c` ends before the timer that it starts.
 const TIMED: &str = described!(
@@ -34,6 +34,22 @@ boot = [{thread = \"a\", stack = \"sa\", script = \"ca\", priority = 0, domain =
 script = [{name = \"ca\", lines = [\"k_sem_take @s K_TICKS(2)\", \"k_timer_start @w 3\", \"k_timer_status_sync @w r0\"]},
  {name = \"cb\", lines = [\"k_sem_take @s K_TICKS(4)\"]},
  {name = \"cc\", lines = [\"k_timer_start @u 9\"]}]
+"
+);
+
+/// `a` joins `b`, which waits; `c` suspends `b`, lets it continue and aborts it.
+const STOPPED: &str = described!(
+    "domain = [{name = \"d\", partitions = []}]
+object = [{name = \"a\", kind = \"thread\"}, {name = \"sa\", kind = \"thread_stack\", size = 64},
+ {name = \"b\", kind = \"thread\"}, {name = \"sb\", kind = \"thread_stack\", size = 64},
+ {name = \"c\", kind = \"thread\"}, {name = \"sc\", kind = \"thread_stack\", size = 64},
+ {name = \"s\", kind = \"sem\", count = 0, limit = 1}]
+boot = [{thread = \"a\", stack = \"sa\", script = \"ca\", priority = 0, domain = \"d\", grants = [\"b\"]},
+ {thread = \"b\", stack = \"sb\", script = \"cb\", priority = 0, domain = \"d\", grants = [\"s\"]},
+ {thread = \"c\", stack = \"sc\", script = \"cc\", priority = 0, domain = \"d\", grants = [\"b\"]}]
+script = [{name = \"ca\", lines = [\"k_thread_join @b K_FOREVER\"]},
+ {name = \"cb\", lines = [\"k_sem_take @s K_FOREVER\"]},
+ {name = \"cc\", lines = [\"k_thread_suspend @b\", \"k_thread_resume @b\", \"k_thread_abort @b\"]}]
 "
 );
 
@@ -195,7 +211,7 @@ fn judged(rt: &impl Abort, alloc: Global, text: &str, seen: &mut [bool]) -> Resu
 #[test]
 fn each_kind_of_event_is_judged(rt: HostRuntime) -> Result<(), Fail> {
     let mut seen = [false; KINDS];
-    for text in [DOMAINS, OBJECTS, RACE, HALT, TIMED] {
+    for text in [DOMAINS, OBJECTS, RACE, HALT, TIMED, STOPPED, FUTEX_WAKE] {
         judged(&rt, rt.alloc(), text, &mut seen)?;
     }
     for (kind, mark) in seen.iter().enumerate() {
