@@ -28,11 +28,12 @@ pub struct Ended {
     pub closed: Closed<Contents>,
 }
 
-/// The processor of this number takes its turns.
+/// The processor of this number, one of so many, takes its turns.
 fn play<R: Wait, G: Gate>(
     rt: &R,
     image: &Image,
     board: &Board<Contents, NextStep>,
+    cpus: usize,
     number: usize,
     cpu: &mut Cpu<'_>,
     gate: &G,
@@ -40,11 +41,11 @@ fn play<R: Wait, G: Gate>(
     requires given { IsGiven image.now }
     requires described { IsDescribed image.now }
     requires can { CanRun image.now 8 }
-    requires begins { Begins image.now board.now.table.shared.table_id number cpu.old }
-    ensures { Ends image.now board.now.table.shared.table_id number cpu.new }
+    requires begins { Begins image.now board.now.table.shared.table_id cpus number cpu.old }
+    ensures { Ends image.now board.now.table.shared.table_id cpus number cpu.new }
 {
     let _ = board;
-    let _ = number;
+    let _ = (cpus, number);
     turns(rt, image, cpu, gate);
 }
 
@@ -59,19 +60,20 @@ fn run_all<R: Threads + Wait + Sync, G: Gate + Sync>(
     requires given { IsGiven image.now }
     requires described { IsDescribed image.now }
     requires can { CanRun image.now 8 }
-    requires begins { EachAt (Begins image.now board.now.table.shared.table_id) cpus.old }
-    ensures ends { EachAt (Ends image.now board.now.table.shared.table_id) cpus.new }
+    requires begins { EachAt (Begins image.now board.now.table.shared.table_id (length cpus.old)) cpus.old }
+    ensures ends { EachAt (Ends image.now board.now.table.shared.table_id (length cpus.old)) cpus.new }
     ensures count { length cpus.new ≡ length cpus.old }
 {
+    let count = cpus.len();
     thread::for_each_mut(
         rt,
         cpus,
         PROCESSORS,
         &|k, cpu: &mut Cpu<'_>|
             requires { IsGiven image.now × IsDescribed image.now × CanRun image.now 8
-                × Begins image.now board.now.table.shared.table_id k cpu.now }
-            ensures { Ends image.entry.now board.entry.now.table.shared.table_id k cpu.exit.now }
-        { play(rt, image, board, k, cpu, gate) },
+                × Begins image.now board.now.table.shared.table_id count k cpu.now }
+            ensures { Ends image.entry.now board.entry.now.table.shared.table_id count k cpu.exit.now }
+        { play(rt, image, board, count, k, cpu, gate) },
     );
 }
 
@@ -82,12 +84,13 @@ fn gather(
     cpus: &mut Vec<Cpu<'_>>,
     logs: &mut Vec<Log>,
 ) -> Seat<Contents>
-    requires ends { EachAt (Ends image.now board.now.table.shared.table_id) cpus.old.items }
+    requires ends { EachAt (Ends image.now board.now.table.shared.table_id (length cpus.old.items)) cpus.old.items }
+    requires some { 1 ≤ length cpus.old.items }
     requires few { length cpus.old.items ≤ 8 }
     requires empty { logs.old.items ≡ [] }
     requires room { length cpus.old.items ≤ vec_capacity logs.old }
-    ensures { Gathered image.now board.now.table.shared.table_id result 0
-        (length cpus.old.items) logs.new.items }
+    ensures { Gathered image.now board.now.table.shared.table_id result (length cpus.old.items)
+        logs.new.items }
 {
     let _ = image;
     while cpus.len() > 1 {
@@ -95,7 +98,7 @@ fn gather(
             unreachable!()
         };
         let (own, log) = cpu.place.into_parts();
-        board.join(&mut cpus.as_mut_slice()[0].place.seat, own);
+        board.join(&mut cpus[0].place.seat, own);
         logs.push_reserved(log);
     }
     let Some(first) = cpus.pop() else {
