@@ -31,7 +31,7 @@ use Rattle.um_history.proofs.Hindered.{hindered}
 use Rattle.um_history.proofs.NeverStuck.{never-stuck}
 use Rattle.um_history.proofs.Refused.{refused}
 use Rattle.um_history.proofs.Stood.{IsSeatOf, g, stood, word-stood}
-use Rattle.um_cpu.specs.Cpus.{HasAsked, Rests, Stands}
+use Rattle.um_cpu.specs.Cpus.{HasAsked, LetsStand, Rests, Stands}
 use Rattle.um_cpu.specs.Playing.{IsPlaying}
 use Rattle.um_cpu.specs.declared.cpu.Cpu.{Cpu}
 use Rattle.um_cpu.proofs.Advances.{stands-there}
@@ -128,8 +128,9 @@ module _ (image : Image) (runs : RunsKnown image) (k : ℕ) (s : Seat Known) (se
 pub rested : (image : Image) → RunsKnown image → (c : Cpu) → IsAt image c.place → IsPlaying image c → (seen : Seated) (w : ℕ) → (whole c.processor).todo ≡ [] → HasMadeNone c.place seen
     → seen.seat.token.me.0.got ≡ (SCHEDULER, w) ∷ c.place.seat.token.me.0.got → NoOlder c.place.seat.token.me.0.got SCHEDULER w → SawAt c.place.seat SCHEDULER w → (cell_of w).ready ≡ 0
     → (q : Processor) (t : Seat Known) (new : List Logged) → q ≡ whole c.processor → Unnoted seen.seat seen.log.items t new
+    → (0 < (cell_of w).owed → LetsStand image c.number (whole c.processor) seen.seat t w)
     → Rests image c.number (whole c.processor) q c.place.seat c.place.log.items t new w
-rested image runs c at stands seen w idle looked got newest saw ready q t new same behind =
+rested image runs c at stands seen w idle looked got newest saw ready q t new same behind time =
     let p = whole c.processor in
     let s = c.place.seat in
     let log = c.place.log.items in
@@ -147,4 +148,5 @@ rested image runs c at stands seen w idle looked got newest saw ready q t new sa
       run = g image runs.described runs.can runs.longest c.number s seat SCHEDULER w saw;
       stood = stood image runs.described runs.can runs.longest c.number s seat SCHEDULER w saw;
       left = word-stood image runs.described runs.can runs.longest c.number s seat SCHEDULER w saw Site.scheduler refl refl;
+      time = λ owed. (seen.seat, subst (λ (l : List Logged). Unnoted s log seen.seat l) looked.log looked, time owed);
     }

@@ -3,6 +3,7 @@ use Rattle.std.specs.Prelude.{◌≡◌, ◌≢◌, ℕ, ◌<◌, ◌≤◌, ◌
 use Rattle.um_base.specs.declared.image.Image.{Image}
 use Rattle.um_words.specs.History.{bare}
 use Rattle.um_words.specs.Packed.{cell_of}
+use Rattle.um_fine.specs.Answers.{is_due_act, is_tick}
 use Rattle.um_fine.specs.Asks.{next_site}
 use Rattle.um_fine.specs.Follows.{p_next}
 use Rattle.um_fine.specs.Processor.{Processor, idle}
@@ -68,8 +69,15 @@ Plays image k p s old q t new = (steps : List FineStep) → HasMade image k p s 
 abbrev pub NoneLeft : ℕ → Type 0
 NoneLeft word = ((cell_of word).running ≡ 0) × ((cell_of word).owed ≡ 0)
 
--- The processor has no thread, and its seat read a word of the scheduler by which none is ready. It made no step, though it may have asked the
--- clock for one. When it looked there was one fine run with the steps that it had made, and that run had left the word.
+-- Why a processor without a thread doesn't let time go on: the clock refused it a mark; and by this word of the scheduler a thread runs, or the
+-- clock refused it the next tick too.
+pub data LetsStand (image : Image) (k : ℕ) (p : Processor) (s t : Seat Known) (word : ℕ) : Type 0 where
+  runs : (e : FineStep) → is_due_act e.act ≡ true → Wants k image p e → WasRefused image k s t e → 0 < (cell_of word).running → LetsStand image k p s t word
+  waits : (mid : Seat Known) (e : FineStep) → is_due_act e.act ≡ true → Wants k image p e → WasRefused image k s mid e → (cell_of word).running ≡ 0
+      → (d : FineStep) → is_tick d.act ≡ true → Wants k image p d → WasRefused image k mid t d → LetsStand image k p s t word
+
+-- The processor has no thread, and its seat read a word of the scheduler by which none is ready. It made no step, though where marks are owed
+-- it asked the clock for one. When it looked there was one fine run with the steps that it had made, and that run had left the word.
 pub record Rests (image : Image) (k : ℕ) (p q : Processor) (s : Seat Known) (old : List Logged) (t : Seat Known) (new : List Logged) (word : ℕ) : Type 0 where
   pub idle : p.todo ≡ []
   pub same : q ≡ p
@@ -82,6 +90,7 @@ pub record Rests (image : Image) (k : ℕ) (p q : Processor) (s : Seat Known) (o
   pub run : List FineStep
   pub stood : Stood image k (map (fine_at k) s.token.me.0.made) run
   pub left : packed (word_of (left_at image run Site.scheduler)) ≡ bare SCHEDULER word
+  pub time : 0 < (cell_of word).owed → (seen : Seat Known) × Unnoted s old seen old × LetsStand image k p seen t word
 
 -- What came of asking once for the next step. The step was made; or its site refused it, in the state in which the fine run of some moment
 -- of the call had left it; or others were at the site: another seat had its turn, or its word changed.

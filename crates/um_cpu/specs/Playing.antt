@@ -7,7 +7,7 @@ use Rattle.um_steps.specs.Given.{IsGiven}
 use Rattle.um_processor.specs.Standing.{whole}
 use Rattle.um_board.specs.Placed.{IsAt}
 use Rattle.um_board.specs.Seated.{Unnoted}
-use Rattle.um_cpu.specs.Cpus.{Advances, HadWork, HasAsked, HasTended, Plays, Rests, Stands}
+use Rattle.um_cpu.specs.Cpus.{Advances, HadWork, HasAsked, HasTended, LetsStand, Plays, Rests, Stands}
 use Rattle.um_cpu.specs.declared.cpu.Cpu.{Cpu}
 
 -- it is as its steps so far have left it
@@ -34,9 +34,12 @@ AskedOnce image c d = HasAsked image c.number (whole c.processor) (whole d.proce
 abbrev pub Tended : Image → Cpu → Cpu → Type 0
 Tended image c d = HasTended image c.number (whole c.processor) (whole d.processor) c.place.seat c.place.log.items d.place.seat d.place.log.items
 
--- it stands where it stood, though its seat has read words
-abbrev pub Waited : Cpu → Cpu → Type 0
-Waited c d = (whole d.processor ≡ whole c.processor) × Unnoted c.place.seat c.place.log.items d.place.seat d.place.log.items
+-- it stands where it stood, though its seat has read words, and lets time stand
+abbrev pub Waited : Image → Cpu → Cpu → ℕ → Type 0
+Waited image c d word =
+    (whole d.processor ≡ whole c.processor)
+    × Unnoted c.place.seat c.place.log.items d.place.seat d.place.log.items
+    × LetsStand image c.number (whole c.processor) c.place.seat d.place.seat word
 
 -- it had something to do, and asked for it
 abbrev pub Worked : Image → Cpu → Cpu → Type 0

@@ -60,7 +60,7 @@ impl<'a> Cpu<'a> {
         ensures keeps { KeepsPlace self.old.place.seat self.new.place.seat }
         ensures goes { GoesOnTo image.now self.old self.new }
         ensures tended { result ≡ false → Tended image.now self.old self.new }
-        ensures waited { result ≡ true → Waited self.old self.new }
+        ensures waited { result ≡ true → Waited image.now self.old self.new word }
         ensures stands { IsPlaying image.now self.new }
     {
         every_fine_run();

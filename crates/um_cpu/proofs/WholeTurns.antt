@@ -13,12 +13,12 @@ use Rattle.um_fine.specs.Processor.{Processor}
 use Rattle.um_fine.specs.Steps.{FineStep, Site}
 use Rattle.um_merge.specs.declared.logged.Logged.{Logged}
 use Rattle.um_processor.specs.Idles.{is_turn}
-use Rattle.um_processor.specs.Processors.{IsStuck, Turned, TurnedAt, UnlessMade, site_next}
+use Rattle.um_processor.specs.Processors.{IsStuck, MayNext, Turned, TurnedAt, UnlessMade, site_next}
 use Rattle.um_processor.specs.Standing.{whole}
 use Rattle.um_processor.specs.declared.phase.Turn.{Turn}
 use Rattle.um_site.specs.declared.seat.Seat.{Seat}
 use Rattle.um_board.specs.Contents.{Known}
-use Rattle.um_board.specs.NextSteps.{stands_at}
+use Rattle.um_board.specs.NextSteps.{IsNext, stands_at}
 use Rattle.um_board.specs.Placed.{IsAt}
 use Rattle.um_board.specs.ReadBack.{fine_at}
 use Rattle.um_board.specs.Saw.{SawAt}
@@ -29,10 +29,10 @@ use Rattle.um_history.specs.Played.{SCHEDULER}
 use Rattle.um_history.proofs.Stood.{IsSeatOf}
 use Rattle.um_refinement.specs.After.{left_by}
 use Rattle.um_refinement.specs.Choice.{IsChosen}
-use Rattle.um_cpu.specs.Cpus.{Advances, HasAsked, HasTended}
+use Rattle.um_cpu.specs.Cpus.{Advances, HasAsked, HasTended, LetsStand, Stands}
 use Rattle.um_cpu.specs.Playing.{IsPlaying}
 use Rattle.um_cpu.specs.declared.cpu.Cpu.{Cpu}
-use Rattle.um_cpu.proofs.Advances.{ChosenBehind, at-next, own, LateAt, ShutAt, alone-before, looked-first, looks-on, noted-all, stands-on, stands-there, turned-keeps, turned-on, unnoted-there}
+use Rattle.um_cpu.proofs.Advances.{ChosenBehind, at-next, own, LateAt, ShutAt, alone-before, looked-first, looks-on, noted-all, stands-next, stands-on, stands-there, turned-keeps, turned-on, unnoted-there}
 use Rattle.um_cpu.proofs.Asks.{asked-of, has-next, refused-step, seat-of}
 use Rattle.um_cpu.proofs.Choosing.{gives, listed-chosen, ticks, turn-chosen}
 use Rattle.um_cpu.proofs.Runs.{RunsKnown}
@@ -152,15 +152,34 @@ module _ (image : Image) (runs : RunsKnown image) (c : Cpu) (at : IsAt image c.p
     pub gave-asked : HasAsked image c.number (whole c.processor) q c.place.seat c.place.log.items t.seat t.log.items
     gave-asked = idled-asked image c.number c.place t (whole c.processor) q is_due_act runs seat there empty stuck same at.enough turn kept gave
 
-  -- it was refused one, and none runs: it asks for the next tick
-  module _ (mid : Seated) (refused : Idled image c.number c.place mid (whole c.processor) (whole c.processor) is_due_act Turn.Busy) (still : (cell_of w).running ≡ 0) where
+  -- it was refused one
+  module _ (mid : Seated) (refused : Idled image c.number c.place mid (whole c.processor) (whole c.processor) is_due_act Turn.Busy) where
     abbrev looked : Unnoted c.place.seat c.place.log.items mid.seat mid.log.items
     looked = refused.1.2
 
     was-refused : WasRefused image c.number c.place.seat mid.seat refused.0
     was-refused = refused-step image runs c.number c.place.seat seat (whole c.processor) there mid.seat refused.0 refused.2 refused.1.3
 
-    module _ (placed : IsAt image mid) (t : Seated) (q : Processor) (turn : Turn) (kept : UnlessMade turn (q ≡ whole c.processor)) (ticked : Idled image c.number mid t (whole c.processor) q is_tick turn) where
+    -- and a thread runs: it lets time stand
+    pub stands-running : 0 < (cell_of w).running → LetsStand image c.number (whole c.processor) c.place.seat mid.seat w
+    stands-running some = LetsStand.runs refused.0 refused.1.1 refused.2 was-refused some
+
+    -- it stands at its place as before
+    behind : (r : Processor) → r ≡ whole c.processor → Stands image c.number r mid.seat mid.log.items
+    behind r is = stands-on image c.number (whole c.processor) r c.place.seat c.place.log.items mid.seat mid.log.items stands looked.keeps
+        (looks-on image c.number (whole c.processor) r c.place.seat c.place.log.items mid.seat mid.log.items looked is)
+
+    pub may-tick : (r : Processor) → r ≡ whole c.processor → MayNext c.number image r (IsNext image mid.seat.token.me.0.name mid.seat.token.me.0.made)
+    may-tick r is = stands-next image c.number r mid.seat mid.log.items (behind r is)
+
+    -- or none runs, and it asks for the next tick
+    module _ (still : (cell_of w).running ≡ 0) (placed : IsAt image mid) (t : Seated) (r q : Processor) (is : r ≡ whole c.processor) (turn : Turn) (kept-r : UnlessMade turn (q ≡ r)) (ticked-r : Idled image c.number mid t r q is_tick turn) where
+      kept : UnlessMade turn (q ≡ whole c.processor)
+      kept = subst (λ (x : Processor). UnlessMade turn (q ≡ x)) is kept-r
+
+      ticked : Idled image c.number mid t (whole c.processor) q is_tick turn
+      ticked = subst (λ (x : Processor). Idled image c.number mid t x q is_tick turn) is ticked-r
+
       from-mid : Advances image c.number (whole c.processor) mid.seat mid.log.items q t.seat t.log.items
       from-mid = idled-on image c.number mid t (whole c.processor) q is_tick turn
           (λ e tick.
@@ -174,21 +193,23 @@ module _ (image : Image) (runs : RunsKnown image) (c : Cpu) (at : IsAt image c.p
       pub ticked-keeps : KeepsPlace c.place.seat t.seat
       ticked-keeps = idled-keeps image c.number mid t (whole c.processor) q is_tick turn ticked ∙ looked.keeps
 
-      -- it stands at its place as before
-      behind : Cpu
-      behind = record { number = c.number; processor = c.processor; place = mid }
+      abbrev behind-seat : IsSeatOf image c.number mid.seat
+      behind-seat = seat-of image _ _ c.number (whole c.processor) mid.seat mid.log.items placed.seated (behind (whole c.processor) refl)
 
-      stands-mid : IsPlaying image behind
-      stands-mid = stands-on image c.number (whole c.processor) (whole c.processor) c.place.seat c.place.log.items mid.seat mid.log.items stands looked.keeps
-          (looks-on image c.number (whole c.processor) (whole c.processor) c.place.seat c.place.log.items mid.seat mid.log.items looked refl)
+      abbrev behind-there : whole c.processor ≡ stands_at image c.number mid.seat.token.me.0.made
+      behind-there = stands-there image c.number (whole c.processor) mid.seat mid.log.items (behind (whole c.processor) refl)
+
+      -- it was refused that too
+      pub stands-waiting : Idled image c.number mid t (whole c.processor) (whole c.processor) is_tick Turn.Busy → LetsStand image c.number (whole c.processor) c.place.seat t.seat w
+      stands-waiting shut = LetsStand.waits mid.seat refused.0 refused.1.1 refused.2 was-refused still shut.0 shut.1.1 shut.2
+          (refused-step image runs c.number mid.seat behind-seat (whole c.processor) behind-there t.seat shut.0 shut.2 shut.1.3)
 
       pub ticked-asked : HasTended image c.number (whole c.processor) q c.place.seat c.place.log.items t.seat t.log.items
       ticked-asked =
           let gave = gave-asked mid (whole c.processor) Turn.Busy refl refused in
           let asked = idled-asked image c.number mid t (whole c.processor) q is_tick runs
-          (seat-of image _ _ c.number (whole c.processor) mid.seat mid.log.items placed.seated stands-mid)
-          (stands-there image c.number (whole c.processor) mid.seat mid.log.items stands-mid)
-          empty stuck (noted-all image c.number (whole c.processor) mid.seat mid.log.items stands-mid) placed.enough turn kept ticked in
+          behind-seat behind-there
+          empty stuck (noted-all image c.number (whole c.processor) mid.seat mid.log.items (behind (whole c.processor) refl)) placed.enough turn kept ticked in
           HasTended.ticked mid.seat
           (subst (λ (l : List Logged). HasAsked image c.number (whole c.processor) (whole c.processor) c.place.seat c.place.log.items mid.seat l) looked.log gave)
           (subst (λ (l : List Logged). HasAsked image c.number (whole c.processor) q mid.seat l t.seat t.log.items) looked.log asked)
