@@ -1,6 +1,6 @@
 -- A seat that is alone at its board: all steps of the board's history are its own. So the fine run at the moment of a look has the steps of its
 -- processor, and no others.
-use Rattle.std.proofs.Common.{◌≡◌, ℕ, zero, suc, ◌<◌, ◌≤◌, Bool, true, List, [], ◌∷◌, ◌⊎◌, inl, inr, ⊎_elim, length, map, refl, sym, ap, ◌∙◌, subst, arith, cond}
+use Rattle.std.proofs.Common.{◌≡◌, ℕ, zero, suc, ◌≤◌, Bool, true, false, List, [], ◌∷◌, inl, ⊎_elim, length, map, refl, sym, ap, ◌∙◌, subst, arith, cond}
 use Rattle.std.proofs.lemmas.Bool.{eq-eqb}
 use mathlib.Core.Logic.{dite}
 use mathlib.Core.Option.{some}
@@ -9,14 +9,14 @@ use lib.ListN.{get_elem?}
 use Rattle.um_base.specs.Weight.{weight}
 use Rattle.um_base.specs.declared.image.Image.{Image}
 use Rattle.um_invariants.specs.Described.{IsDescribed}
-use Rattle.um_words.specs.History.{Entry, by_seat}
+use Rattle.um_words.specs.History.{by_seat}
 use Rattle.um_words.specs.declared.made.Made.{Made}
 use Rattle.um_fine.specs.FineRun.{IsFineRun, cpu_of, same_cpu}
 use Rattle.um_fine.specs.Runs.{sublist}
 use Rattle.um_fine.specs.Steps.{FineStep}
 use Rattle.um_refinement.specs.Room.{CanRun}
 use Rattle.um_site.specs.Cells.{Moment}
-use Rattle.um_site.specs.History.{Among, AmongNames, Has}
+use Rattle.um_site.specs.History.{Among, AmongNames}
 use Rattle.um_site.specs.declared.seat.Seat.{Seat}
 use Rattle.um_site.specs.declared.view.View.{View}
 use Rattle.um_board.specs.Contents.{Follows, Known, Opens}
