@@ -7,6 +7,7 @@ ghost use Rattle.um_board.specs.{Kept.{cell_of}, Turned.{kind_of}};
 ghost use Rattle.um_cpu.specs.Standing.{IsReadable};
 ghost use Rattle.um_fine.specs.Cells.{Cell};
 ghost use Rattle.um_history.specs.Left.{in_slot};
+ghost use Rattle.um_tables.specs.ObjectCells.{cleared, kept_in};
 ghost use Rattle.um_words.specs.declared.kind.CellKind.{CellKind};
 
 use um_base::{Mode, Parts};
@@ -43,6 +44,18 @@ const UNBORN: ThreadWord = ThreadWord {
     note: None,
     number: 0,
 };
+
+/// The cell of an object, which is kept here. `None` stands for one that keeps nothing.
+fn object_in(kept: &Kept) -> Option<&ObjectCell>
+    requires { kind_of (cell_of kept.now) ≡ CellKind.Object }
+    ensures { MatchOption result (cell_of kept.now ≡ Cell.object (kept_in (cleared 0)))
+        (λ cell. cell_of kept.now ≡ Cell.object (kept_in cell.now)) }
+{
+    match kept {
+        Kept::Object(room) => room.cell(),
+        _ => unreachable!(),
+    }
+}
 
 /// The bytes of the memory, which are kept here.
 fn memory_in(kept: &Kept) -> &Bytes
@@ -145,8 +158,8 @@ impl<'a> ReadSites for LeftBoard<'a> {
 
     fn read_object(&self, row: usize) -> Option<&ObjectCell> {
         match self.kept(row as u16) {
-            Some(Kept::Object(room)) => room.cell(),
-            _ => None,
+            Some(kept) => object_in(kept),
+            None => unreachable!(),
         }
     }
 
