@@ -241,12 +241,12 @@ gathered image board cpus items [] c logs own log are is one is-own is-log =
     let takes = (subst (λ (l : List Cpu). AreGathering image board cpus l (reverse logs)) is are).0 in
     let logs-are : reverse (logs ++ log ∷ []) ≡ c.place.log ∷ reverse logs = reverse-append logs (log ∷ []) ∙ ap (λ (l : Log). l ∷ reverse logs) is-log in
     subst (λ (s : Seat Known). Gathered image board s cpus (reverse (logs ++ log ∷ []))) (sym is-own) (
-      record {
-        here = takes.here;
-        first = takes.first;
-        whole_again = let split = takes.split in let joined = takes.joined in let all = takes.knows.count in omega (arith, split, joined, all);
-        knows = subst (λ (l : List Log). HasGathered image c.place.seat.token.me.0 cpus l) (sym logs-are) (has-gathered image c.place.seat.token.me.0 cpus c.place.log (reverse logs) takes.knows);
-      }
+    record {
+      here = takes.here;
+      first = takes.first;
+      whole_again = let split = takes.split in let joined = takes.joined in let all = takes.knows.count in omega (arith, split, joined, all);
+      knows = subst (λ (l : List Log). HasGathered image c.place.seat.token.me.0 cpus l) (sym logs-are) (has-gathered image c.place.seat.token.me.0 cpus c.place.log (reverse logs) takes.knows);
+    }
     )
 
 -- all are taken in, and the board is closed
