@@ -1,5 +1,5 @@
 -- What a step of the machine leaves of each thread: of one that doesn't make it the steps, unless it is started or cut; who is aborted or doomed then was
--- so before, or is now by that step; and who waits then waited before, or begins to wait by it.
+-- so before, or is now by that step.
 use Rattle.std.specs.List.{list_all}
 use Rattle.std.specs.Prelude.{◌==◌, ◌&&◌, not, if◌then◌else◌, is_some, slice_index_or}
 use Rattle.std.proofs.Common.{◌≡◌, ◌≢◌, ◌⊎◌, inl, inr, ℕ, zero, suc, ◌+◌, Bool, true, false, List, [], ◌∷◌, Option, Some, None, refl, sym, ap, ◌∙◌, subst}
@@ -54,6 +54,7 @@ Shortens v q = ⊥
 pub record IsLeft (s : State) (v : ℕ) (q : Pending) (me : Thread) : Type 0 where
   pub pending : (me.pending ≡ (thread_at s v).pending) ⊎ (IsShort me.pending × Shortens v q)
   pub aborted : me.aborted ≡ true → ((thread_at s v).aborted ≡ true) ⊎ AbortsIt s v q
+  pub aborts : (thread_at s v).aborted ≡ true → (me.aborted ≡ true) ⊎ Shortens v q
   pub doomed : me.doomed ≡ true → ((thread_at s v).doomed ≡ true) ⊎ DoomsIt v q
   pub dooms : (thread_at s v).doomed ≡ true → me.doomed ≡ true
   pub told : me.told ≡ None → ((thread_at s v).told ≡ None) ⊎ IsShort me.pending
@@ -66,7 +67,7 @@ module _ (s : State) (t x v : ℕ) (q : Pending) where
   Reads z = Is (thread_at z v)
 
   first : Is (thread_at s v)
-  first = record { pending = inl refl; aborted = λ h. inl h; doomed = λ h. inl h; dooms = λ h. h; told = λ h. inl h }
+  first = record { pending = inl refl; aborted = λ h. inl h; aborts = λ h. inl h; doomed = λ h. inl h; dooms = λ h. h; told = λ h. inl h }
 
   -- what is known of a write
   abbrev Makes : Effect → Type 0
@@ -86,12 +87,12 @@ module _ (s : State) (t x v : ℕ) (q : Pending) where
   told-so z u told r =
       set z u (record (thread_at z u) { told = Some told }) (
         λ same is. let me = subst (λ n. Is (thread_at z n)) (sym same) is in
-            record { pending = me.pending; aborted = me.aborted; doomed = me.doomed; dooms = me.dooms; told = λ none. absurd (true≢false (ap is_some none)) }
+            record { pending = me.pending; aborted = me.aborted; aborts = me.aborts; doomed = me.doomed; dooms = me.dooms; told = λ none. absurd (true≢false (ap is_some none)) }
       ) r
 
   dues : (y i : ℕ) (holders : List Bool) (xs : List Thread) (u : ℕ) → Is (slice_index_or xs u nobody) → Is (slice_index_or (T.with_dues y i holders xs) u nobody)
   dues y i holders [] u h = h
-  dues y i holders (me ∷ xs) zero h = record { pending = h.pending; aborted = h.aborted; doomed = h.doomed; dooms = h.dooms; told = h.told }
+  dues y i holders (me ∷ xs) zero h = record { pending = h.pending; aborted = h.aborted; aborts = h.aborts; doomed = h.doomed; dooms = h.dooms; told = h.told }
   dues y i holders (me ∷ xs) (suc u) h = dues y (i + 1) holders xs u h
 
   keeps : (e : Effect) (z : State) → Makes e → Reads z → Reads (effect e z)
@@ -99,33 +100,34 @@ module _ (s : State) (t x v : ℕ) (q : Pending) where
   keeps (Effect.moves who d) z f r =
       set z who (record (thread_at z who) { domain = d }) (
         λ same is. let me = subst (λ n. Is (thread_at z n)) (sym same) is in
-            record { pending = me.pending; aborted = me.aborted; doomed = me.doomed; dooms = me.dooms; told = me.told }
+            record { pending = me.pending; aborted = me.aborted; aborts = me.aborts; doomed = me.doomed; dooms = me.dooms; told = me.told }
       ) r
   keeps (Effect.dooms who) z f r =
       set z who (record (thread_at z who) { doomed = true }) (
         λ same is. let me = subst (λ n. Is (thread_at z n)) (sym same) is in
-            record { pending = me.pending; aborted = me.aborted; doomed = λ h. inr (f same); dooms = λ h. refl; told = me.told }
+            record { pending = me.pending; aborted = me.aborted; aborts = me.aborts; doomed = λ h. inr (f same); dooms = λ h. refl; told = me.told }
       ) r
   keeps (Effect.flags who Flag.aborted) z f r =
       set z who (flagged Flag.aborted (thread_at z who)) (
         λ same is. let me = subst (λ n. Is (thread_at z n)) (sym same) is in
-            record { pending = me.pending; aborted = λ h. inr (f same); doomed = me.doomed; dooms = me.dooms; told = me.told }
+            record { pending = me.pending; aborted = λ h. inr (f same); aborts = λ h. inl refl; doomed = me.doomed; dooms = me.dooms; told = me.told }
       ) r
   keeps (Effect.flags who (Flag.suspended on)) z f r =
       set z who (flagged (Flag.suspended on) (thread_at z who)) (
         λ same is. let me = subst (λ n. Is (thread_at z n)) (sym same) is in
-            record { pending = me.pending; aborted = me.aborted; doomed = me.doomed; dooms = me.dooms; told = me.told }
+            record { pending = me.pending; aborted = me.aborted; aborts = me.aborts; doomed = me.doomed; dooms = me.dooms; told = me.told }
       ) r
   keeps (Effect.cuts who) z f r =
       set z who (cut (thread_at z who)) (
         λ same is. let me = subst (λ n. Is (thread_at z n)) (sym same) is in
-            record { pending = inr (refl, f same); aborted = me.aborted; doomed = me.doomed; dooms = me.dooms; told = λ none. inr refl }
+            record { pending = inr (refl, f same); aborted = me.aborted; aborts = me.aborts; doomed = me.doomed; dooms = me.dooms; told = λ none. inr refl }
       ) r
   keeps (Effect.starts who thread) z f r =
       set z who thread (
         λ same is. record {
             pending = inr (subst IsShort (sym f.0) tt, f.3);
             aborted = λ h. absurd (true≢false (sym h ∙ f.1));
+            aborts = λ h. inr f.3;
             doomed = λ h. inl (ap (λ n. (thread_at s n).doomed) (sym same) ∙ (sym f.2 ∙ h));
             dooms = λ h. f.2 ∙ (ap (λ n. (thread_at s n).doomed) same ∙ h);
             told = λ none. inr (subst IsShort (sym f.0) tt);
@@ -184,6 +186,7 @@ module _ (s : State) (t x v : ℕ) (q : Pending) where
 
 pub record AreFlagged (s : State) (v : ℕ) (q : Pending) (me : Thread) : Type 0 where
   pub aborted : me.aborted ≡ true → ((thread_at s v).aborted ≡ true) ⊎ AbortsIt s v q
+  pub aborts : (thread_at s v).aborted ≡ true → (me.aborted ≡ true) ⊎ Shortens v q
   pub doomed : me.doomed ≡ true → ((thread_at s v).doomed ≡ true) ⊎ DoomsIt v q
   pub dooms : (thread_at s v).doomed ≡ true → me.doomed ≡ true
 
@@ -208,9 +211,14 @@ module _ (s : State) (t x v : ℕ) (q : Pending) where
   flagged-so me other same h =
       record {
         aborted = λ k. h.aborted (ap (λ (z : Bool × Bool). z.0) (sym same) ∙ k);
+        aborts = λ k. which (h.aborts k);
         doomed = λ k. h.doomed (ap (λ (z : Bool × Bool). z.1) (sym same) ∙ k);
         dooms = λ k. ap (λ (z : Bool × Bool). z.1) same ∙ h.dooms k;
       }
+    where
+      which : (me.aborted ≡ true) ⊎ Shortens v q → (other.aborted ≡ true) ⊎ Shortens v q
+      which (inl k) = inl (ap (λ (z : Bool × Bool). z.0) same ∙ k)
+      which (inr short) = inr short
 
   went-flags : (left : Steps) (z : State) (next : Next) → Flagged z → Flagged (went left z t next)
   went-flags left z Next.stays r = r
@@ -226,7 +234,7 @@ module _ (s : State) (t x v : ℕ) (q : Pending) where
       let z = wrote (effects_of s t x q) s in
       let here = thread-wrote s t x v q in
       subst (λ (w : State). AreFlagged s v q (thread_at w v)) (sym (after-is s t x q rest))
-      (went-flags rest z (next_of s t x q) (record { aborted = here.aborted; doomed = here.doomed; dooms = here.dooms }))
+      (went-flags rest z (next_of s t x q) (record { aborted = here.aborted; aborts = here.aborts; doomed = here.doomed; dooms = here.dooms }))
 
 -- The steps that are left of the thread that makes it.
 
