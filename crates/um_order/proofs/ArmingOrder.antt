@@ -46,6 +46,20 @@ pub data Held (s : State) (deadline : ℕ) (mark : Mark) : List Marked → List 
   void : {m : Marked} {a : Arming} {ms : List Marked} {armings : List Arming} → m.given ≡ true → nat_le a.deadline s.now ≡ true → makes_step s a ≡ false
       → Held s deadline mark ms armings → Held s deadline mark (m ∷ ms) (a ∷ armings)
 
+-- the clock has that mark
+abbrev has_marks : List Marked → Bool
+has_marks [] = false
+has_marks (m ∷ ms) = true
+
+pub held-some : (s : State) (deadline : ℕ) (mark : Mark) (ms : List Marked) (armings : List Arming) → Held s deadline mark ms armings → ms ≡ [] → ⊥
+held-some s deadline mark ms armings held none = true≢false (sym (some ms armings held) ∙ ap has_marks none)
+  where
+    some : (ms : List Marked) (armings : List Arming) → Held s deadline mark ms armings → has_marks ms ≡ true
+    some _ _ (hand given armed due plain) = refl
+    some _ _ (gone given held) = refl
+    some _ _ (later armed given off held) = refl
+    some _ _ (void given due off held) = refl
+
 abbrev pub AreSettled : List Marked → Type 0
 AreSettled ms = list_all (λ (m : Marked). m.settled) ms ≡ true
 

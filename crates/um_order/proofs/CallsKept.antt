@@ -51,7 +51,7 @@ pub record AreCalls (m : State) : Type 0 where
   pub doomed : (v from : ℕ) (rest : Steps) → (thread_at m v).pending ≡ Pending.Dooms from ∷ rest → (u : ℕ) → u < from → u < THREADS → (thread_at m u).doomed ≡ true
   pub all : (u : ℕ) → (thread_at m u).doomed ≡ true → AllDoomed m ⊎ IsDooming m
 
-back-settled : (steps : Steps) → IsCall steps → IsBack steps → IsSettled steps
+pub back-settled : (steps : Steps) → IsCall steps → IsBack steps → IsSettled steps
 back-settled [] h k = tt
 back-settled (Pending.Resume ∷ rest) h k = h
 back-settled (Pending.Killed ∷ rest) h k = subst Quiet (sym k) tt

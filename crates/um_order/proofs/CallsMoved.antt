@@ -9,6 +9,7 @@ use Rattle.um_base.specs.declared.instr.Instr.{Instr}
 use Rattle.um_machine.specs.Goes.{Change, Next, at_steps, changed, gone, Way, steps_by, without_copy, work_change, work_way}
 use Rattle.um_machine.specs.Order.{Steps, to_deadline}
 use Rattle.um_machine.specs.Run.{MayChoose, Offers, goes, skips_inherit, skips_drops, begins, exits, leaves, stops, tends, may_go, is_tending}
+use Rattle.um_machine.specs.Services.{is_empty}
 use Rattle.um_machine.specs.State.{State, instruction_at, thread_at}
 use Rattle.um_machine.specs.Table as T
 use Rattle.um_machine.specs.Writes.{wrote}
@@ -44,6 +45,13 @@ is_act (Pending.Join who timeout) = true
 is_act (Pending.FutexWait a value timeout) = true
 is_act q = false
 
+-- a step that stops a thread, or goes on with one
+abbrev pub is_stirring : Pending → Bool
+is_stirring (Pending.Abort who) = true
+is_stirring (Pending.Suspend who) = true
+is_stirring (Pending.Continue who) = true
+is_stirring q = false
+
 abbrev pub is_begin : Pending → Bool
 is_begin Pending.Begin = true
 is_begin q = false
@@ -65,7 +73,7 @@ module _ (s : State) (t x : ℕ) (proper : AreProper s.image s) (call : IsCall (
   -- what sort of a step the thread makes, and what stands behind it
   pub data IsOffered (q : Pending) (rest : Steps) : Type 0 where
     inner : is_inner q ≡ true → Calls rest → (IsSettled (thread_at s t).pending → Quiet rest) → IsOffered q rest
-    asks : is_asking q ≡ true → Quiet rest → (IsSettled (thread_at s t).pending → ⊥) → IsOffered q rest
+    asks : is_asking q ≡ true → Quiet rest → (is_stirring q ≡ true → is_empty rest ≡ false) → (IsSettled (thread_at s t).pending → ⊥) → IsOffered q rest
     resumes : q ≡ Pending.Resume → Quiet rest → IsOffered q rest
     rises : q ≡ Pending.Begin → IsTrue (may_go (thread_at s t)) → IsTrue (is_some (instruction_at s.image (thread_at s t).place)) → IsOffered q rest
     beside : is_beside q ≡ true → IsOffered q rest
@@ -81,12 +89,12 @@ module _ (s : State) (t x : ℕ) (proper : AreProper s.image s) (call : IsCall (
   later-offered (Pending.Cut who) rest h g o = absurd (true≢false o)
   later-offered Pending.Resume rest h g o = absurd h
   later-offered (Pending.Dooms from) rest h g o = absurd h
-  later-offered (Pending.Work a ask) rest h g o = asks refl h g
-  later-offered (Pending.Join who timeout) rest h g o = asks refl h g
-  later-offered (Pending.FutexWait a value timeout) rest h g o = asks refl h g
-  later-offered (Pending.Abort who) rest h g o = asks refl h.0 g
-  later-offered (Pending.Suspend who) rest h g o = asks refl h.0 g
-  later-offered (Pending.Continue who) rest h g o = asks refl h.0 g
+  later-offered (Pending.Work a ask) rest h g o = asks refl h (λ k. absurd (false≢true k)) g
+  later-offered (Pending.Join who timeout) rest h g o = asks refl h (λ k. absurd (false≢true k)) g
+  later-offered (Pending.FutexWait a value timeout) rest h g o = asks refl h (λ k. absurd (false≢true k)) g
+  later-offered (Pending.Abort who) rest h g o = asks refl h.0 (λ k. h.1) g
+  later-offered (Pending.Suspend who) rest h g o = asks refl h.0 (λ k. h.1) g
+  later-offered (Pending.Continue who) rest h g o = asks refl h.0 (λ k. h.1) g
   later-offered q rest h g o = inner refl h g
 
   first-offered : (q : Pending) (rest : Steps) → IsCall (q ∷ rest) → (IsSettled (thread_at s t).pending → IsSettled (q ∷ rest)) → is_odd q ≡ false → IsOffered q rest
@@ -260,7 +268,7 @@ module _ (s : State) (t x : ℕ) (proper : AreProper s.image s) (call : IsCall (
     where
       by : IsOffered q rest → Now q (thread_at (T.after s t x q rest) t).pending
       by (inner is h g) = inner-now q rest is h g
-      by (asks is h g) = asking-now q rest is h
+      by (asks is h more g) = asking-now q rest is h
       by (resumes e h) =
           let told : MayChoose s t x Pending.Resume = subst (MayChoose s t x) e chosen in
           subst (λ p. Now p (thread_at (T.after s t x p rest) t).pending) (sym e) (resumed-now rest told.0 told.1 h)

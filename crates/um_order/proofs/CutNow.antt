@@ -105,7 +105,7 @@ module _ (s : State) (t x : ℕ) (q : Pending) (rest : Steps) (offers : Offers s
 
       by : (p : Pending) → q ≡ p → IsOffered s t x proper (was.calls t) q rest → ⊥
       by p same (inner is h g) = inner-not q is act
-      by p same (asks is h g) = g settled
+      by p same (asks is h more g) = g settled
       by p same (resumes e h) = false≢true (sym (ap is_act e) ∙ act)
       by p same (rises e may there) = false≢true (sym (ap is_act e) ∙ act)
       by p same (beside is) = beside-not q is act

@@ -29,7 +29,7 @@ module _ (f : Fine) (m : State) (e : FineStep) (law : Lawful f m e) (u : ℕ) (s
   open around f e use {later}
 
   -- the word that a step at a thread index leaves is that of the index
-  word-there : thread_in e.word ≡ word later u
+  pub word-there : thread_in e.word ≡ word later u
   word-there =
       ap thread_in (word-left f m e law)
       ∙ (ap (λ (i : Site). thread_in (word_of (site_after f.image (f.sites i) e.act e.moved))) site

@@ -1,5 +1,5 @@
 -- With each lawful step of the one processor its event follows, or the point stays.
-use Rattle.std.proofs.Common.{◌≡◌, ◌⊎◌, inl, inr, ℕ, ◌<◌, Bool, true, false, [], ◌∷◌, Option, Some, None, refl, sym, ap, ◌∙◌, subst, arith}
+use Rattle.std.proofs.Common.{◌≡◌, ◌⊎◌, inl, inr, ℕ, zero, suc, ◌<◌, Bool, true, false, [], ◌∷◌, Option, Some, None, refl, sym, ap, ◌∙◌, subst, arith}
 use Rattle.std.specs.Prelude.{◌==◌, IsTrue, if◌then◌else◌, is_some}
 use Rattle.std.specs.List.{list_all}
 use Rattle.std.proofs.lemmas.Bool.{false≢true, true≢false}
@@ -11,6 +11,7 @@ use Rattle.um_base.specs.Lawful.{IsLawful}
 use Rattle.um_machine.specs.declared.pending.Pending.{Pending}
 use Rattle.um_machine.specs.Order.{Steps, to_thread}
 use Rattle.um_machine.specs.Run.{MayChoose}
+use Rattle.um_machine.specs.Time.{next_deadline}
 use Rattle.um_machine.specs.State.{State, is_started, is_waiting, thread_at}
 use Rattle.um_machine.specs.Table as T
 use Rattle.um_invariants.specs.Armings.{Arming, makes_step}
@@ -22,6 +23,7 @@ use Rattle.um_words.specs.declared.fine.Mark.{Mark}
 use Rattle.um_words.specs.declared.fine.Unseen.{Unseen}
 use Rattle.um_fine.specs.Answers.{act_in, is_tick, is_void, thread_in}
 use Rattle.um_fine.specs.Asks.{by_actor, by_me, marks_end}
+use Rattle.um_fine.specs.Clock.{deadlines}
 use Rattle.um_fine.specs.Context.{Context}
 use Rattle.um_fine.specs.Continues.{continues}
 use Rattle.um_fine.specs.Places.{Todo, Todos}
@@ -54,7 +56,7 @@ use Rattle.um_refinement.proofs.VisitSteps.{visit-runs}
 use Rattle.um_refinement.proofs.WordsKept.{IsShown}
 use Rattle.um_order.proofs.AbortOrder.{aborts-itself, aborts-looks, aborts-rouses}
 use Rattle.um_order.proofs.ArmOrder.{arms}
-use Rattle.um_order.proofs.ArmingOrder.{AreSettled, IsArmed}
+use Rattle.um_order.proofs.ArmingOrder.{AreSettled, IsArmed, held-some}
 use Rattle.um_order.proofs.CleanOrder.{Cleaned, pair-follows, recycle-follows}
 use Rattle.um_order.proofs.Follow.{Followed, FollowsBy}
 use Rattle.um_order.proofs.HandOrder.{hold-void, pays-on}
@@ -92,7 +94,7 @@ from_of (Pending.Drops from ∷ rest) = from
 from_of steps = 0
 
 -- whom a step stops, or goes on with
-abbrev stirred : Pending → Option ℕ
+abbrev pub stirred : Pending → Option ℕ
 stirred (Pending.Abort who) = Some who.0
 stirred (Pending.Continue who) = Some who.0
 stirred q = None
@@ -104,6 +106,10 @@ looked_first todo = None
 abbrev handles_first : Todos → Bool
 handles_first (Todo.handle deadline mark ∷ todo) = true
 handles_first todo = false
+
+abbrev is_join : Pending → Bool
+is_join (Pending.Join who timeout) = true
+is_join q = false
 
 -- the first step on a list
 abbrev is_turn_first : Todos → Bool
@@ -125,23 +131,23 @@ module _ (f : Fine) (at : Point) (e : FineStep) (law : Lawful f at.state e) (one
     pub chosen : IsChosen f e
     pub full : runs p ≡ true → IsFull at.state p.context.thread p.context.pending
     -- nobody is aborted between the two readings of its word behind a wait
-    pub calm_word : (site : ℕ) (todo : Todos) → p.todo ≡ Todo.reread site ∷ todo → (thread_in e.word).aborted ≡ false
+    pub calm_word : Begun p (scheduler f) (clock f).marks at → (site : ℕ) (todo : Todos) → p.todo ≡ Todo.reread site ∷ todo → (thread_in e.word).aborted ≡ false
     -- a look finds who waits, and a mark in the hand whom it is for
-    pub look_void : (who site before : ℕ) (todo : Todos) → p.todo ≡ Todo.look who site before ∷ todo → is_void e.act ≡ true → is_waiting (thread_at at.state who) ≡ false
+    pub look_void : (was : Looks p (scheduler f) (clock f).marks at) → is_void e.act ≡ true → is_waiting (thread_at at.state was.who) ≡ false
     -- behind a step that stops another thread, or goes on with one, its thread goes on; that one is no doomed thread
     pub stir_goes : (q : Pending) (rest : Steps) (todo : Todos) → Shows f at.state e.cpu e q rest todo → stirs q (act_in e.act) ≡ true
         → goes (continues f.image p.context 0 q rest (act_in e.act) e.moved).pending ≡ true
     pub stir_who : (q : Pending) (rest : Steps) (todo : Todos) (x u : ℕ) → Shows f at.state e.cpu e q rest todo → stirred q ≡ Some u
         → (u < THREADS) × ((thread_at (T.after at.state p.context.thread x q rest) u).doomed ≡ false)
     -- who is aborted waits only with a note
-    pub abort_idle : (who : ThreadIx) (rest : Steps) (todo : Todos) (x : ℕ) → Shows f at.state e.cpu e (Pending.Abort who) rest todo → (thread_in e.word).note ≡ None
-        → is_waiting (thread_at (T.after at.state p.context.thread x (Pending.Abort who) rest) who.0) ≡ false
+    pub abort_idle : (who : ThreadIx) (rest : Steps) (todo : Todos) (x : ℕ) → Shows f at.state e.cpu e (Pending.Abort who) rest todo → Rel later (T.after at.state p.context.thread x (Pending.Abort who) rest)
+        → (thread_in e.word).note ≡ None → is_waiting (thread_at (T.after at.state p.context.thread x (Pending.Abort who) rest) who.0) ≡ false
     -- a join that says that its thread is no longer joined has the least row
     pub join_least : (who : ThreadIx) (timeout : Timeout) (rest : Steps) (todo : Todos) (x : ℕ) → Shows f at.state e.cpu e (Pending.Join who timeout) rest todo → IsStep f at.state e.cpu e x (Pending.Join who timeout)
-        → IsLeast at.state p.context.thread (Pending.Join who timeout) x
-    -- the thread by which the processor makes the events of time made the last event
-    pub last_time : (is_tick e.act ≡ true) ⊎ (handles_first p.todo ≡ true) → at.last ≡ Some (to_thread (actor_or f.image p.actor))
-    pub hand_void : (deadline : ℕ) (mark : Mark) (todo : Todos) → p.todo ≡ Todo.handle deadline mark ∷ todo → is_void e.act ≡ true → (a : Arming) → IsArmed deadline mark a → makes_step at.state a ≡ false
+        → x < 2 → IsLeast at.state p.context.thread (Pending.Join who timeout) x
+    -- where there are marks, the thread by which the processor makes the events of time made the last event
+    pub last_time : ((clock f).marks ≡ [] → ⊥) → at.last ≡ Some (to_thread (actor_or f.image p.actor))
+    pub hand_void : (was : Holds p (scheduler f) (clock f).marks at) → is_void e.act ≡ true → (a : Arming) → IsArmed was.deadline was.mark a → makes_step at.state a ≡ false
 
   -- it settles each mark within the turn that armed it
   settled-idle : p.todo ≡ [] → AreSettled (clock f).marks
@@ -166,14 +172,14 @@ module _ (f : Fine) (at : Point) (e : FineStep) (law : Lawful f at.state e) (one
       by : PutsAway now (scheduler later) (clock later).marks at ⊎ Idles now (scheduler later) (clock later).marks at → Stands now (scheduler later) (joins later) (clock later).marks at
       by (inl is) = away is
       by (inr is) = idles is
-  quiet-next known quiet (begun was) = by (quiet-begun f at e law one suits.tells proper bounds was quiet known.calm_word)
+  quiet-next known quiet (begun was) = by (quiet-begun f at e law one suits.tells proper bounds was quiet (known.calm_word was))
     where
       by : Begun now (scheduler later) (clock later).marks at ⊎ Idles now (scheduler later) (clock later).marks at → Stands now (scheduler later) (joins later) (clock later).marks at
       by (inl is) = begun is
       by (inr is) = idles is
   quiet-next known quiet (rouses was) = begun (rouse-on f at e law was)
   quiet-next known quiet (looks was) =
-      begun (look-void f at e law was void (known.look_void was.who was.site was.before was.todo was.list void))
+      begun (look-void f at e law was void (known.look_void was void))
     where
       void : is_void e.act ≡ true
       void = by (is_void e.act) refl
@@ -183,7 +189,7 @@ module _ (f : Fine) (at : Point) (e : FineStep) (law : Lawful f at.state e) (one
           by false h =
               absurd (true≢false (ap is_shown (sym (made-says f m e law (Todo.look was.who was.site was.before ∷ was.todo) was.list ∙ ap (λ b. if b then FineAct.Unseen Unseen.Void else by_me f.image p (Act.Cut (to_thread was.who))) h)) ∙ quiet))
   quiet-next known quiet (holds was) =
-      pays (hold-void f at e law one was void (known.hand_void was.deadline was.mark (Todo.paid ∷ []) was.list void))
+      pays (hold-void f at e law one was void (known.hand_void was void))
     where
       void : is_void e.act ≡ true
       void = by (is_void e.act) refl
@@ -276,7 +282,7 @@ module _ (f : Fine) (at : Point) (e : FineStep) (law : Lawful f at.state e) (one
         by : (b : Bool) → (who.0 == p.context.thread) ≡ b → (o : Option ℕ) → (thread_in e.word).note ≡ o → Followed f at e law one orderly (T.after at.state p.context.thread x (Pending.Abort who) rest)
         by true mine o note = aborts-itself f at e law one orderly suits all was who rest todo x h is done full going related whom.0 whom.1 mine
         by false other None note =
-            aborts-rouses f at e law one orderly suits all was who rest todo x h is done full going related whom.0 whom.1 other note (known.abort_idle who rest todo x h note)
+            aborts-rouses f at e law one orderly suits all was who rest todo x h is done full going related whom.0 whom.1 other note (known.abort_idle who rest todo x h related note)
         by false other (Some site) note =
             aborts-looks f at e law one orderly suits all was who rest todo x h is done full going related whom.0 whom.1 other site note (abort-busy f m e who rest todo _ site law h whom.0 related note)
     stir-follows q rest todo x h is done related full was = absurd (false≢true done)
@@ -443,9 +449,9 @@ module _ (f : Fine) (at : Point) (e : FineStep) (law : Lawful f at.state e) (one
             which _ _ (O.begins k on i) = refl
             which _ _ (O.exits k on i) = refl
 
-    event-follows : (q : Pending) (rest : Steps) (todo : Todos) (x : ℕ) → Shows f at.state e.cpu e q rest todo → IsShown q → IsStep f at.state e.cpu e x q → Rel later (T.after at.state p.context.thread x q rest)
+    event-follows : (q : Pending) (rest : Steps) (todo : Todos) (x : ℕ) → (is_join q ≡ true → x < 2) → Shows f at.state e.cpu e q rest todo → IsShown q → IsStep f at.state e.cpu e x q → Rel later (T.after at.state p.context.thread x q rest)
         → TellsWaiters (T.after at.state p.context.thread x q rest) → AreBounded later → Stands p (scheduler f) (joins f) (clock f).marks at → Followed f at e law one orderly (T.after at.state p.context.thread x q rest)
-    event-follows q rest todo x h shown is related tells bounded st = by (stirs q (act_in e.act)) refl (showing h.listed rest todo h.at st)
+    event-follows q rest todo x few h shown is related tells bounded st = by (stirs q (act_in e.act)) refl (showing h.listed rest todo h.at st)
       where
         full : IsFull at.state p.context.thread p.context.pending
         full = known.full (shows-runs h)
@@ -453,6 +459,7 @@ module _ (f : Fine) (at : Point) (e : FineStep) (law : Lawful f at.state e) (one
         least : (who : ThreadIx) (timeout : Timeout) → q ≡ Pending.Join who timeout → IsLeast at.state p.context.thread (Pending.Join who timeout) x
         least who timeout w =
             known.join_least who timeout rest todo x (subst (λ (r : Pending). Shows f at.state e.cpu e r rest todo) w h) (subst (λ (r : Pending). IsStep f at.state e.cpu e x r) w is)
+            (few (ap is_join w))
 
         by : (b : Bool) → stirs q (act_in e.act) ≡ b → Begun p (scheduler f) (clock f).marks at ⊎ Opens p (scheduler f) (clock f).marks at → Followed f at e law one orderly (T.after at.state p.context.thread x q rest)
         by false calm (inl was) = event-begun q rest todo x h shown is calm least related tells bounded full was
@@ -460,13 +467,30 @@ module _ (f : Fine) (at : Point) (e : FineStep) (law : Lawful f at.state e) (one
         by true stir (inl was) = stir-follows q rest todo x h is stir related full was
         by true stir (inr was) = absurd (true≢false (sym stir ∙ opens-calm q rest todo h was))
 
+    -- a join says of a thread that is over the same by any number but 0
+    event-least : (q : Pending) (rest : Steps) (todo : Todos) (x : ℕ) → Shows f at.state e.cpu e q rest todo → IsShown q → IsStep f at.state e.cpu e x q → Rel later (T.after at.state p.context.thread x q rest)
+        → TellsWaiters (T.after at.state p.context.thread x q rest) → AreBounded later → Stands p (scheduler f) (joins f) (clock f).marks at → Followed f at e law one orderly (T.after at.state p.context.thread x q rest)
+    event-least (Pending.Join who timeout) rest todo zero h shown is related tells bounded st = event-follows (Pending.Join who timeout) rest todo zero (λ j. omega arith) h shown is related tells bounded st
+    event-least (Pending.Join who timeout) rest todo (suc zero) h shown is related tells bounded st =
+        event-follows (Pending.Join who timeout) rest todo (suc zero) (λ j. omega arith) h shown is related tells bounded st
+    event-least (Pending.Join who timeout) rest todo (suc (suc n)) h shown is related tells bounded st =
+        event-follows (Pending.Join who timeout) rest todo (suc zero) (λ j. omega arith) h shown (record { said = is.said; chosen = is.chosen; says = is.says }) related tells bounded st
+    event-least q rest todo x h shown is related tells bounded st = event-follows q rest todo x (λ j. absurd (false≢true j)) h shown is related tells bounded st
+
+    -- there are marks where one is in the hand, and where time goes on
+    held-marks : Holds p (scheduler f) (clock f).marks at → (clock f).marks ≡ [] → ⊥
+    held-marks was = held-some at.state was.deadline was.mark (clock f).marks at.armings was.armings
+
+    ticked-marks : IsTrue (is_some (next_deadline at.state.now at.state.armed)) → (clock f).marks ≡ [] → ⊥
+    ticked-marks some none = false≢true (sym (ap (λ ds. is_some (next_deadline at.state.now ds)) (sym law.rel.clock.armed ∙ ap deadlines none)) ∙ some)
+
     of-cleaned : (was : Begun p (scheduler f) (clock f).marks at) (s2 : State) → Cleaned f at e law kept was s2 → Followed f at e law one orderly s2
     of-cleaned was s2 g = record { point = record at { state = s2 }; follows = g.follows; state = refl; stands = begun g.begun }
 
     pub by-leaves : OwnRows f.image → RestsHoldNothing at.state → (s2 : State) (leaves : Leaves f at.state e s2) → HasStep f at.state e s2 leaves → Rel later s2 → TellsWaiters s2 → AreBounded later
         → Stands p (scheduler f) (joins f) (clock f).marks at → Followed f at e law one orderly s2
     by-leaves own rests _ (nothing u said) has related tells bounded st = quiet-follows known (ap is_shown said) st
-    by-leaves own rests _ (event q rest todo x h shown is) has related tells bounded st = event-follows q rest todo x h shown is related tells bounded st
+    by-leaves own rests _ (event q rest todo x h shown is) has related tells bounded st = event-least q rest todo x h shown is related tells bounded st
     by-leaves own rests _ (resumes c told rest idle moved said) has related tells bounded st =
         resume-follows f at e law one orderly c told rest (is-idle idle st) moved said has related tells bounded
     by-leaves own rests _ (passes who x rest todo h said) has related tells bounded st =
@@ -502,11 +526,13 @@ module _ (f : Fine) (at : Point) (e : FineStep) (law : Lawful f at.state e) (one
             → Followed f at e law one orderly (T.after m p.context.thread x (Pending.Cut (to_thread n)) (thread_at m p.context.thread).pending)) found.1
             (λ said chosen. cut-follows f at e law found.0 one orderly kept x said chosen) said chosen
         by (times_out deadline site x who todo list same few said) chosen started l r t =
-            timed-out-follows f at e law one orderly kept (handling deadline (Mark.Thread who site) todo list st) deadline site x who todo list same few said chosen started (known.last_time (inr (ap handles_first list))) r bounded
+            let was = handling deadline (Mark.Thread who site) todo list st in
+            timed-out-follows f at e law one orderly kept was deadline site x who todo list same few said chosen started (known.last_time (held-marks was)) r bounded
         by (expires deadline x todo list few said) chosen started l r t =
-            expire-follows f at e law one orderly kept suits.waits (handling deadline (Mark.Timer x) todo list st) deadline x todo list said chosen started (known.last_time (inr (ap handles_first list))) r bounded
+            let was = handling deadline (Mark.Timer x) todo list st in
+            expire-follows f at e law one orderly kept suits.waits was deadline x todo list said chosen started (known.last_time (held-marks was)) r bounded
         by (ticks list said) chosen started l r t =
-            tick-follows f at e law one orderly (is-idle list st) (ap is_tick said) known.chosen (settled-idle list) (known.last_time (inl (ap is_tick said))) chosen started
+            tick-follows f at e law one orderly (is-idle list st) (ap is_tick said) known.chosen (settled-idle list) (known.last_time (ticked-marks chosen)) chosen started
         by (L.leaves todo list said) chosen started l r t =
             leave-follows f at e law one orderly proper (has-begun Todo.leave todo list refl st) todo list said r t bounded
             (known.full (runs-first law.rel law.by.named Todo.leave todo list (λ hand. hand)))

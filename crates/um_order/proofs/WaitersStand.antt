@@ -444,7 +444,7 @@ module _ (s : State) (t x : ℕ) (q : Pending) (rest : Steps) (offers : Offers s
 
       by : IsOffered s t x proper (calls.calls t) q rest → Quiet rest
       by (inner is h g) = absurd (inner-not q is act)
-      by (asks is h g) = h
+      by (asks is h more g) = h
       by (resumes e h) = h
       by (rises e may there) = absurd (false≢true (sym (ap is_act e) ∙ act))
       by (beside is) = absurd (beside-not q is act)
