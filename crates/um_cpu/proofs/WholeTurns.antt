@@ -13,17 +13,18 @@ use Rattle.um_fine.specs.Processor.{Processor}
 use Rattle.um_fine.specs.Steps.{FineStep, Site}
 use Rattle.um_merge.specs.declared.logged.Logged.{Logged}
 use Rattle.um_processor.specs.Idles.{is_turn}
-use Rattle.um_processor.specs.Processors.{IsStuck, MayNext, Turned, TurnedAt, UnlessMade, site_next}
+use Rattle.um_processor.specs.Processors.{IsStuck, Turned, TurnedAt, UnlessMade, site_next}
 use Rattle.um_processor.specs.Standing.{whole}
 use Rattle.um_processor.specs.declared.phase.Turn.{Turn}
 use Rattle.um_site.specs.declared.seat.Seat.{Seat}
 use Rattle.um_board.specs.Contents.{Known}
-use Rattle.um_board.specs.NextSteps.{IsNext, stands_at}
+use Rattle.um_board.specs.NextSteps.{stands_at}
 use Rattle.um_board.specs.Placed.{IsAt}
 use Rattle.um_board.specs.ReadBack.{fine_at}
 use Rattle.um_board.specs.Saw.{SawAt}
 use Rattle.um_board.specs.Seated.{KeepsPlace, Noted, Unnoted}
 use Rattle.um_board.specs.declared.seated.Seated.{Seated}
+use Rattle.um_board.proofs.Keeping.{unnoted-then}
 use Rattle.um_history.specs.Fine.{IsAlone, WasRefused}
 use Rattle.um_history.specs.Played.{SCHEDULER}
 use Rattle.um_history.proofs.Stood.{IsSeatOf}
@@ -32,7 +33,7 @@ use Rattle.um_refinement.specs.Choice.{IsChosen}
 use Rattle.um_cpu.specs.Cpus.{Advances, HasAsked, HasTended, LetsStand, Stands}
 use Rattle.um_cpu.specs.Playing.{IsPlaying}
 use Rattle.um_cpu.specs.declared.cpu.Cpu.{Cpu}
-use Rattle.um_cpu.proofs.Advances.{ChosenBehind, at-next, own, LateAt, ShutAt, alone-before, looked-first, looks-on, noted-all, stands-next, stands-on, stands-there, turned-keeps, turned-on, unnoted-there}
+use Rattle.um_cpu.proofs.Advances.{ChosenBehind, at-next, own, LateAt, ShutAt, alone-before, looked-first, looks-on, noted-all, stands-on, stands-there, turned-keeps, turned-on, unnoted-there}
 use Rattle.um_cpu.proofs.Asks.{asked-of, has-next, refused-step, seat-of}
 use Rattle.um_cpu.proofs.Choosing.{gives, listed-chosen, ticks, turn-chosen}
 use Rattle.um_cpu.proofs.Runs.{RunsKnown}
@@ -57,7 +58,7 @@ module _ (image : Image) (k : ℕ) (s t : Seated) (p q : Processor) where
   abbrev pub Takes : Turn → Type 0
   Takes turn = TurnedAt Site.scheduler turn k image p q
       (λ e. (is_turn e.act ≡ true) × Made e)
-      (λ e. (e.site ≡ Site.scheduler) × (is_turn e.act ≡ true) × Refused e)
+      (λ e. (e.site ≡ Site.scheduler) × (is_turn e.act ≡ true) × Unnoted s.seat s.log.items t.seat t.log.items × ShutAt image s t e)
       Hindered
       (t ≡ s)
 
@@ -71,7 +72,7 @@ module _ (image : Image) (k : ℕ) (s t : Seated) (p q : Processor) where
     where
       by : (todo : Todos) → p.todo ≡ todo → Advances image k p s.seat s.log.items q t.seat t.log.items
       by [] at =
-          turned-on image k p q s.seat s.log.items t.seat t.log.items Site.scheduler (λ e. (is_turn e.act ≡ true) × Made e) (λ e. (e.site ≡ Site.scheduler) × (is_turn e.act ≡ true) × Refused e) Hindered (t ≡ s)
+          turned-on image k p q s.seat s.log.items t.seat t.log.items Site.scheduler (λ e. (is_turn e.act ≡ true) × Made e) (λ e. (e.site ≡ Site.scheduler) × (is_turn e.act ≡ true) × Unnoted s.seat s.log.items t.seat t.log.items × ShutAt image s t e) Hindered (t ≡ s)
           (λ e took. took.1) (λ e shut. shut.2) (λ late. late.0) (unnoted-there s t)
           turn (λ e took goes alone. turn-chosen (left_by image 1 (own image k s.seat)) e took.0) same (takes at)
       by (x ∷ todo) at =
@@ -153,35 +154,47 @@ module _ (image : Image) (runs : RunsKnown image) (c : Cpu) (at : IsAt image c.p
     gave-asked = idled-asked image c.number c.place t (whole c.processor) q is_due_act runs seat there empty stuck same at.enough turn kept gave
 
   -- it was refused one
-  module _ (mid : Seated) (refused : Idled image c.number c.place mid (whole c.processor) (whole c.processor) is_due_act Turn.Busy) where
-    abbrev looked : Unnoted c.place.seat c.place.log.items mid.seat mid.log.items
+  module _ (mid : Seated) (r : Processor) (turn : Turn) (busy : turn ≡ Turn.Busy) (kept-r : UnlessMade turn (r ≡ whole c.processor)) (gave : Idled image c.number c.place mid (whole c.processor) r is_due_act turn) where
+    abbrev refused : Idled image c.number c.place mid (whole c.processor) (whole c.processor) is_due_act Turn.Busy
+    refused = subst (λ (x : Turn). Idled image c.number c.place mid (whole c.processor) r is_due_act x) busy gave
+
+    pub is-same : r ≡ whole c.processor
+    is-same = subst (λ (x : Turn). UnlessMade x (r ≡ whole c.processor)) busy kept-r
+
+    pub looked : Unnoted c.place.seat c.place.log.items mid.seat mid.log.items
     looked = refused.1.2
 
     was-refused : WasRefused image c.number c.place.seat mid.seat refused.0
     was-refused = refused-step image runs c.number c.place.seat seat (whole c.processor) there mid.seat refused.0 refused.2 refused.1.3
 
+    -- it stands as before
+    pub behind : Stands image c.number r mid.seat mid.log.items
+    behind = stands-on image c.number (whole c.processor) r c.place.seat c.place.log.items mid.seat mid.log.items stands looked.keeps
+        (looks-on image c.number (whole c.processor) r c.place.seat c.place.log.items mid.seat mid.log.items looked is-same)
+
     -- and a thread runs: it lets time stand
     pub stands-running : 0 < (cell_of w).running → LetsStand image c.number (whole c.processor) c.place.seat mid.seat w
     stands-running some = LetsStand.runs refused.0 refused.1.1 refused.2 was-refused some
 
-    -- it stands at its place as before
-    behind : (r : Processor) → r ≡ whole c.processor → Stands image c.number r mid.seat mid.log.items
-    behind r is = stands-on image c.number (whole c.processor) r c.place.seat c.place.log.items mid.seat mid.log.items stands looked.keeps
-        (looks-on image c.number (whole c.processor) r c.place.seat c.place.log.items mid.seat mid.log.items looked is)
-
-    pub may-tick : (r : Processor) → r ≡ whole c.processor → MayNext c.number image r (IsNext image mid.seat.token.me.0.name mid.seat.token.me.0.made)
-    may-tick r is = stands-next image c.number r mid.seat mid.log.items (behind r is)
-
     -- or none runs, and it asks for the next tick
-    module _ (still : (cell_of w).running ≡ 0) (placed : IsAt image mid) (t : Seated) (r q : Processor) (is : r ≡ whole c.processor) (turn : Turn) (kept-r : UnlessMade turn (q ≡ r)) (ticked-r : Idled image c.number mid t r q is_tick turn) where
-      kept : UnlessMade turn (q ≡ whole c.processor)
-      kept = subst (λ (x : Processor). UnlessMade turn (q ≡ x)) is kept-r
+    module _ (still : (cell_of w).running ≡ 0) (placed : IsAt image mid) (t : Seated) (q : Processor) (next : Turn) (kept-q : UnlessMade next (q ≡ r)) (ticked-r : Idled image c.number mid t r q is_tick next) where
+      kept : UnlessMade next (q ≡ whole c.processor)
+      kept = subst (λ (x : Processor). UnlessMade next (q ≡ x)) is-same kept-q
 
-      ticked : Idled image c.number mid t (whole c.processor) q is_tick turn
-      ticked = subst (λ (x : Processor). Idled image c.number mid t x q is_tick turn) is ticked-r
+      ticked : Idled image c.number mid t (whole c.processor) q is_tick next
+      ticked = subst (λ (x : Processor). Idled image c.number mid t x q is_tick next) is-same ticked-r
+
+      stands-mid : Stands image c.number (whole c.processor) mid.seat mid.log.items
+      stands-mid = subst (λ (x : Processor). Stands image c.number x mid.seat mid.log.items) is-same behind
+
+      seat-mid : IsSeatOf image c.number mid.seat
+      seat-mid = seat-of image _ _ c.number (whole c.processor) mid.seat mid.log.items placed.seated stands-mid
+
+      there-mid : whole c.processor ≡ stands_at image c.number mid.seat.token.me.0.made
+      there-mid = stands-there image c.number (whole c.processor) mid.seat mid.log.items stands-mid
 
       from-mid : Advances image c.number (whole c.processor) mid.seat mid.log.items q t.seat t.log.items
-      from-mid = idled-on image c.number mid t (whole c.processor) q is_tick turn
+      from-mid = idled-on image c.number mid t (whole c.processor) q is_tick next
           (λ e tick.
           chosen-first image c.number c.place.seat mid.seat c.place.log.items mid.log.items e looked
           (ticks image runs c.number c.place.seat seat w saw none still mid.seat refused.0 refused.1.0 refused.1.1 was-refused e tick))
@@ -191,25 +204,29 @@ module _ (image : Image) (runs : RunsKnown image) (c : Cpu) (at : IsAt image c.p
       ticked-goes = looked-first image c.number (whole c.processor) q c.place.seat c.place.log.items mid.seat mid.log.items t.seat t.log.items looked from-mid
 
       pub ticked-keeps : KeepsPlace c.place.seat t.seat
-      ticked-keeps = idled-keeps image c.number mid t (whole c.processor) q is_tick turn ticked ∙ looked.keeps
-
-      abbrev behind-seat : IsSeatOf image c.number mid.seat
-      behind-seat = seat-of image _ _ c.number (whole c.processor) mid.seat mid.log.items placed.seated (behind (whole c.processor) refl)
-
-      abbrev behind-there : whole c.processor ≡ stands_at image c.number mid.seat.token.me.0.made
-      behind-there = stands-there image c.number (whole c.processor) mid.seat mid.log.items (behind (whole c.processor) refl)
-
-      -- it was refused that too
-      pub stands-waiting : Idled image c.number mid t (whole c.processor) (whole c.processor) is_tick Turn.Busy → LetsStand image c.number (whole c.processor) c.place.seat t.seat w
-      stands-waiting shut = LetsStand.waits mid.seat refused.0 refused.1.1 refused.2 was-refused still shut.0 shut.1.1 shut.2
-          (refused-step image runs c.number mid.seat behind-seat (whole c.processor) behind-there t.seat shut.0 shut.2 shut.1.3)
+      ticked-keeps = idled-keeps image c.number mid t (whole c.processor) q is_tick next ticked ∙ looked.keeps
 
       pub ticked-asked : HasTended image c.number (whole c.processor) q c.place.seat c.place.log.items t.seat t.log.items
       ticked-asked =
-          let gave = gave-asked mid (whole c.processor) Turn.Busy refl refused in
-          let asked = idled-asked image c.number mid t (whole c.processor) q is_tick runs
-          behind-seat behind-there
-          empty stuck (noted-all image c.number (whole c.processor) mid.seat mid.log.items (behind (whole c.processor) refl)) placed.enough turn kept ticked in
+          let first = gave-asked mid r turn kept-r gave in
+          let asked = idled-asked image c.number mid t (whole c.processor) q is_tick runs seat-mid there-mid
+          empty stuck (noted-all image c.number (whole c.processor) mid.seat mid.log.items stands-mid) placed.enough next kept ticked in
           HasTended.ticked mid.seat
-          (subst (λ (l : List Logged). HasAsked image c.number (whole c.processor) (whole c.processor) c.place.seat c.place.log.items mid.seat l) looked.log gave)
+          (subst (λ (x : Processor). HasAsked image c.number (whole c.processor) x c.place.seat c.place.log.items mid.seat c.place.log.items) is-same
+          (subst (λ (l : List Logged). HasAsked image c.number (whole c.processor) r c.place.seat c.place.log.items mid.seat l) looked.log first))
           (subst (λ (l : List Logged). HasAsked image c.number (whole c.processor) q mid.seat l t.seat t.log.items) looked.log asked)
+
+      -- it was refused that too: it lets time stand
+      module _ (shut : next ≡ Turn.Busy) where
+        abbrev denied : Idled image c.number mid t (whole c.processor) (whole c.processor) is_tick Turn.Busy
+        denied = subst (λ (x : Turn). Idled image c.number mid t (whole c.processor) q is_tick x) shut ticked
+
+        pub waits-same : q ≡ whole c.processor
+        waits-same = subst (λ (x : Turn). UnlessMade x (q ≡ whole c.processor)) shut kept
+
+        pub waits-looked : Unnoted c.place.seat c.place.log.items t.seat t.log.items
+        waits-looked = unnoted-then c.place.seat mid.seat t.seat c.place.log.items mid.log.items t.log.items looked denied.1.2
+
+        pub stands-waiting : LetsStand image c.number (whole c.processor) c.place.seat t.seat w
+        stands-waiting = LetsStand.waits mid.seat refused.0 refused.1.1 refused.2 was-refused still denied.0 denied.1.1 denied.2
+            (refused-step image runs c.number mid.seat seat-mid (whole c.processor) there-mid t.seat denied.0 denied.2 denied.1.3)

@@ -1,5 +1,5 @@
 -- What a processor on a board has made, and what its turns add to that.
-use Rattle.std.specs.Prelude.{◌≡◌, ◌≢◌, ℕ, ◌<◌, ◌≤◌, ◌⊎◌, List, [], ◌∷◌, ◌++◌, length, map}
+use Rattle.std.specs.Prelude.{◌≡◌, ◌≢◌, ℕ, ◌<◌, ◌≤◌, ◌⊎◌, true, List, [], ◌∷◌, ◌++◌, length, map}
 use Rattle.um_base.specs.declared.image.Image.{Image}
 use Rattle.um_words.specs.History.{bare}
 use Rattle.um_words.specs.Packed.{cell_of}

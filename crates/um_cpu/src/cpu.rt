@@ -106,12 +106,15 @@ impl<'a> Cpu<'a> {
             self.ask(image);
             return Turn::Did;
         }
-        if says.owed > 0 && !self.tend(image, word) {
+        if says.owed > 0 {
+            if self.tend(image, word) {
+                return Turn::Idle { word };
+            }
             return Turn::Did;
         }
-        if says.running == 0 && says.owed == 0 {
-            return Turn::Quiet { word };
+        if says.running > 0 {
+            return Turn::Idle { word };
         }
-        Turn::Idle { word }
+        Turn::Quiet { word }
     }
 }
