@@ -1,11 +1,11 @@
-use Rattle.std.proofs.Common.{◌≡◌, ◌+◌, ◌<◌, ◌≤◌, List, [], ◌∷◌, ◌++◌, length, length-append, length-set, set, ap, arith, refl, subst, sym, ◌∙◌}
+use Rattle.std.proofs.Common.{◌≡◌, ◌<◌, ◌≤◌, List, [], ◌∷◌, length, length-append, length-set, set, ap, arith, refl, subst, sym, ◌∙◌}
 use Rattle.std.specs.Prelude.{reverse}
 use Rattle.std.proofs.lemmas.List.{reverse-append}
 use Rattle.um_merge.specs.Logs.{Log}
 use Rattle.um_site.specs.History.{AmongNames}
 use Rattle.um_site.specs.declared.seat.Seat.{Seat}
 use Rattle.um_board.specs.Contents.{Known}
-use Rattle.um_cpu.specs.Ended.{EachAt, Ends, Gathered}
+use Rattle.um_cpu.specs.Ended.{Gathered}
 use Rattle.um_cpu.specs.declared.cpu.Cpu.{Cpu}
 use Rattle.um_cpu.proofs.Gathers.{AreGathering, ends-apart, gathered, gathers-first, gathers-on, joins-out}
 use Rattle.um_cpu.proofs.SplitOff.{with_seat}

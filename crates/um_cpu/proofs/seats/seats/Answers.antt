@@ -1,4 +1,4 @@
-use Rattle.std.proofs.Common.{ℕ, ◌+◌, ◌<◌, List, [], ◌∷◌, ◌++◌, length, length-append, length-set, set, ap, arith, subst, sym}
+use Rattle.std.proofs.Common.{◌+◌, List, [], ◌∷◌, length, length-append, length-set, set, ap, arith, subst, sym}
 use Rattle.um_cpu.specs.Ended.{Begins, EachAt}
 use Rattle.um_cpu.specs.declared.cpu.Cpu.{Cpu}
 use Rattle.um_cpu.proofs.SplitOff.{all-begin, with_seat}
