@@ -7,7 +7,7 @@ use um_service::{Outcome, Woken};
 use um_tables::{FutexWait, FutexWake, Here, Look, Said, Seeker, Sites, Waiting};
 use um_words::Mark;
 
-/// The object of the row 3.
+/// The address of the object that the tests are about.
 const OBJECT: Addr = Addr(0x4000_0000);
 
 const WAITER: ThreadIx = ThreadIx(2);
@@ -48,7 +48,7 @@ fn what_is_owed_is_paid(rt: HostRuntime) -> Result<(), Fail> {
     Ok(())
 }
 
-/// A look at the cell of the row 3 for the waiter, which was aborted when its word had this number.
+/// A look at the cell of that object for the waiter, which was aborted when its word had this number.
 fn aborted(before: u32) -> Look {
     Look::Aborted {
         thread: ThreadIx(0),
