@@ -1,5 +1,5 @@
 -- What comes of asking for the next step, by the fine run that stood when the seat looked.
-use Rattle.std.proofs.Common.{◌≡◌, ◌≢◌, ◌⊎◌, inl, inr, ℕ, ◌<◌, ◌≤◌, List, [], ◌∷◌, ◌++◌, length, map, refl, sym, ap, ◌∙◌, subst, arith}
+use Rattle.std.proofs.Common.{◌≡◌, ◌≢◌, ◌⊎◌, inl, inr, ℕ, ◌<◌, List, [], ◌∷◌, ◌++◌, length, map, refl, sym, ap, ◌∙◌, subst, arith}
 use Rattle.std.specs.Prelude.{IsTrue}
 use Rattle.um_base.specs.Weight.{weight}
 use Rattle.um_base.specs.declared.image.Image.{Image}
@@ -23,7 +23,7 @@ use Rattle.um_board.specs.Placed.{HasMadeNone, IsAt}
 use Rattle.um_board.specs.ReadBack.{fine_at}
 use Rattle.um_board.proofs.Keeping.{unnoted-then}
 use Rattle.um_board.specs.Saw.{Hinders, OthersAt, SawAt, SawShut}
-use Rattle.um_board.specs.Seated.{IsSeated, KeepsPlace, KeptPlace, Noted, Unnoted}
+use Rattle.um_board.specs.Seated.{IsSeated, KeptPlace, Noted, Unnoted}
 use Rattle.um_board.specs.declared.seated.Seated.{Seated}
 use Rattle.um_history.specs.Fine.{Stood, WasRefused}
 use Rattle.um_history.specs.Played.{SCHEDULER}
@@ -34,7 +34,6 @@ use Rattle.um_history.proofs.Stood.{IsSeatOf, g, stood, word-stood}
 use Rattle.um_cpu.specs.Cpus.{HasAsked, LetsStand, Rests, Stands}
 use Rattle.um_cpu.specs.Playing.{IsPlaying}
 use Rattle.um_cpu.specs.declared.cpu.Cpu.{Cpu}
-use Rattle.um_cpu.proofs.Advances.{stands-there}
 use Rattle.um_cpu.proofs.Runs.{RunsKnown}
 use Rattle.um_processor.specs.Standing.{whole}
 use Rattle.um_words.specs.Packed.{cell_of}

@@ -1,9 +1,8 @@
 -- When a step is chosen: a processor that has a list has steps of one kind alone; one that has none takes a thread, or tends to time where it saw that
 -- no thread is ready. If its seat is alone, what it saw is as its own steps have left it.
-use Rattle.std.proofs.Common.{◌≡◌, ◌≢◌, ℕ, ◌-◌, ◌/◌, ◌%◌, ◌<◌, ◌≤◌, Bool, true, false, List, [], ◌∷◌, length, map, Option, Some, None, refl, sym, ap, ◌∙◌, subst, arith}
+use Rattle.std.proofs.Common.{◌≡◌, ◌≢◌, ℕ, ◌-◌, ◌/◌, ◌%◌, ◌≤◌, Bool, true, false, List, [], length, Option, Some, None, refl, sym, ap, ◌∙◌, subst, arith}
 use Rattle.std.specs.Prelude.{◌&&◌, IsTrue, is_some, nat_lt}
 use Rattle.std.proofs.lemmas.Bool.{false≢true, true≢false}
-use Rattle.um_base.specs.Weight.{weight}
 use Rattle.um_base.specs.declared.image.Image.{Image}
 use Rattle.um_words.specs.History.{bare}
 use Rattle.um_words.specs.Packed.{cell_of}
@@ -11,11 +10,9 @@ use Rattle.um_words.specs.declared.cell_word.CellWord.{CellWord}
 use Rattle.um_words.specs.declared.fine.FineAct.{FineAct}
 use Rattle.um_words.specs.declared.fine.Unseen.{Unseen}
 use Rattle.um_fine.specs.Answers.{is_due_act, is_tick}
-use Rattle.um_fine.specs.Asks.{made_by}
 use Rattle.um_fine.specs.Cells.{Cell}
 use Rattle.um_fine.specs.Clock.{Clock, Marked, clock_takes, first_due}
 use Rattle.um_fine.specs.Processor.{Processor}
-use Rattle.um_fine.specs.Scheduler.{Scheduler}
 use Rattle.um_fine.specs.Sites.{SiteState, is_sort, site_takes, word_of}
 use Rattle.um_fine.specs.Steps.{FineStep, Site}
 use Rattle.um_processor.specs.Idles.{is_turn}

@@ -1,5 +1,5 @@
 -- What is known of every fine run of a described image, on a board.
-use Rattle.std.proofs.Common.{◌≡◌, ℕ, ◌≤◌, List, length}
+use Rattle.std.proofs.Common.{ℕ, ◌≤◌, List, length}
 use Rattle.um_base.specs.Lawful.{IsLawful}
 use Rattle.um_base.specs.Weight.{weight}
 use Rattle.um_base.specs.declared.act.Event.{Event}

@@ -19,7 +19,7 @@ use Rattle.um_board.specs.NextSteps.{seat_name}
 use Rattle.um_board.specs.Opening.{AreOpening, IsFirst}
 use Rattle.um_board.specs.Seated.{IsSeated}
 use Rattle.um_board.specs.Turned.{IsPlaced}
-use Rattle.um_cpu.specs.Ended.{Begins, EachAt, HasSplit, SplitsNone, SplitsOthers, first_names}
+use Rattle.um_cpu.specs.Ended.{Begins, EachAt, HasSplit, first_names}
 use Rattle.um_cpu.specs.declared.cpu.Cpu.{Cpu}
 
 -- the processor with another seat

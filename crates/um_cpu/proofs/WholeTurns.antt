@@ -25,7 +25,7 @@ use Rattle.um_board.specs.Saw.{SawAt}
 use Rattle.um_board.specs.Seated.{KeepsPlace, Noted, Unnoted}
 use Rattle.um_board.specs.declared.seated.Seated.{Seated}
 use Rattle.um_board.proofs.Keeping.{unnoted-then}
-use Rattle.um_history.specs.Fine.{IsAlone, WasRefused}
+use Rattle.um_history.specs.Fine.{WasRefused}
 use Rattle.um_history.specs.Played.{SCHEDULER}
 use Rattle.um_history.proofs.Stood.{IsSeatOf}
 use Rattle.um_refinement.specs.After.{left_by}

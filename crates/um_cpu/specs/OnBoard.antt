@@ -1,5 +1,5 @@
 -- What a closed board has of the steps that processors made on it.
-use Rattle.std.specs.Prelude.{◌≡◌, ℕ, ◌<◌, eqb, List, [], ◌∷◌, map, slice_index}
+use Rattle.std.specs.Prelude.{◌≡◌, ℕ, ◌<◌, eqb, List, [], map, slice_index}
 use Rattle.std.specs.Mem.Slots.{slots_items}
 use Rattle.um_base.specs.declared.image.Image.{Image}
 use Rattle.um_words.specs.History.{bare}

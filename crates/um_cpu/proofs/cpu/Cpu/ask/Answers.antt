@@ -1,5 +1,4 @@
 use Rattle.std.proofs.Common.{◌≡◌, subst}
-use Rattle.um_base.specs.declared.image.Image.{Image}
 use Rattle.um_fine.specs.Steps.{FineStep, Site}
 use Rattle.um_processor.specs.Standing.{whole}
 use Rattle.um_processor.specs.Processors.{Turned}
@@ -9,7 +8,7 @@ use Rattle.um_board.specs.Seated.{Noted, Unnoted}
 use Rattle.um_board.specs.declared.seated.Seated.{Seated}
 use Rattle.um_cpu.proofs.Advances.{LateAt, ShutAt, noted-all, stands-next, stands-on, stands-there}
 use Rattle.um_cpu.proofs.Asks.{has-next, not-stuck, seat-of}
-use Rattle.um_cpu.proofs.Runs.{RunsKnown, runs-known}
+use Rattle.um_cpu.proofs.Runs.{runs-known}
 use Rattle.um_cpu.proofs.WholeTurns.{turn-asked, turn-goes, turn-keeps}
 use Rattle.um_cpu.proofs.cpu.Cpu.ask.Goals as goal
 

@@ -1,4 +1,4 @@
-use Rattle.std.proofs.Common.{◌≡◌, ◌<◌, ◌≤◌, List, inl, inr, refl, subst, arith}
+use Rattle.std.proofs.Common.{◌<◌, ◌≤◌, List, inl, inr, refl, subst, arith}
 use Rattle.um_words.specs.declared.cell_word.CellWord.{CellWord}
 use Rattle.um_processor.specs.Standing.{whole}
 use Rattle.um_merge.specs.declared.logged.Logged.{Logged}
