@@ -14,3 +14,4 @@ pub mod WordActs
 pub mod Looked
 pub mod Told
 pub mod Timing
+pub mod ListedMarks

@@ -1,5 +1,5 @@
 -- The clock's marks: the first of a sort, the least deadline, and how far time is.
-use Rattle.std.proofs.Common.{◌≡◌, ℕ, zero, suc, ◌+◌, ◌*◌, ◌<◌, ◌≤◌, Bool, true, false, List, [], ◌∷◌, ◌++◌, length, length-append, drop, take, get_or, Option, Some, None, refl, sym, ap, ◌∙◌, subst, arith, if◌then◌else◌, slice_set}
+use Rattle.std.proofs.Common.{◌≡◌, ℕ, zero, suc, ◌+◌, ◌*◌, ◌<◌, ◌≤◌, Bool, true, false, List, [], ◌∷◌, ◌++◌, length, length-append, drop, take, get_or, Option, Some, None, refl, sym, ap, subst, arith, if◌then◌else◌, slice_set}
 use Rattle.std.specs.Prelude.{IsTrue, nat_lt, is_some, unwrap_or}
 use Rattle.std.proofs.lemmas.List.{drop_more, get_or_read, take_all, take_more}
 use Rattle.std.proofs.Math.Nat.{min-le_left}
@@ -145,11 +145,7 @@ settled-near c deadline mark h = let left = near-settled deadline mark (length c
 pub ticked-near : (c : Clock) (next : ℕ) → AreNear c → Some next ≡ next_deadline c.now (deadlines c.marks) → AreNear (record c { now = next })
 ticked-near c next h is = (near-next (length c.marks) c.now next c.marks h.1 is, h.1)
 
-take-front : (ms rest : List Marked) → take (length ms) (ms ++ rest) ≡ ms
+-- marks that are written back over the first so many
+pub take-front : (ms rest : List Marked) → take (length ms) (ms ++ rest) ≡ ms
 take-front [] rest = refl
 take-front (m ∷ ms) rest = ap (λ (all : List Marked). m ∷ all) (take-front ms rest)
-
--- marks that are written back over the first so many
-pub taken-near : (time n : ℕ) (ms rest : List Marked) → length ms ≡ n → AreNear (record { now = time; marks = ms }) → AreNear (record { now = time; marks = take n (ms ++ rest) })
-taken-near time n ms rest long h =
-    subst (λ (all : List Marked). AreNear (record { now = time; marks = all })) (sym (ap (λ (k : ℕ). take k (ms ++ rest)) (sym long) ∙ take-front ms rest)) h

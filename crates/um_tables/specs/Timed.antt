@@ -1,5 +1,5 @@
 -- Virtual time as its cell keeps it, with room for so many marks.
-use Rattle.std.specs.Prelude.{◌≤◌, ◌*◌, ℕ, List, [], ◌∷◌, length, Option, Some, None}
+use Rattle.std.specs.Prelude.{◌≡◌, ◌≤◌, ◌+◌, ◌*◌, ℕ, Bool, true, not, if◌then◌else◌, List, [], ◌∷◌, length, Option, Some, None}
 use Rattle.um_words.specs.declared.fine.Mark.{Mark}
 use Rattle.um_fine.specs.Clock.{Clock, Marked, later}
 
@@ -18,6 +18,33 @@ AllNear n (m ∷ ms) = (m.deadline ≤ n * 4294967296) × AllNear n ms
 
 abbrev pub AreNear : Clock → Type 0
 AreNear c = (c.now ≤ length c.marks * 4294967296) × AllNear (length c.marks) c.marks
+
+-- the places of the marks of a sort, of which the first one stands at a place k
+abbrev pub places : (Marked → Bool) → ℕ → List Marked → List ℕ
+places p k [] = []
+places p k (m ∷ ms) = if p m then k ∷ places p (k + 1) ms else places p (k + 1) ms
+
+-- the marks of two sorts: those that aren't given yet, and those that aren't settled yet
+abbrev pub not_given : Marked → Bool
+not_given m = not m.given
+
+abbrev pub not_settled : Marked → Bool
+not_settled m = not m.settled
+
+-- the deadline of each mark that is given has come
+abbrev pub HaveCome : ℕ → List Marked → Type 0
+HaveCome now [] = Unit {0}
+HaveCome now (m ∷ ms) = (m.given ≡ true → m.deadline ≤ now) × HaveCome now ms
+
+-- A clock with the places of its marks that aren't given, and of those that aren't settled. Each of the two lists has at least as much room as
+-- the marks have.
+pub record IsListed (c : Clock) (ungiven unsettled : List ℕ) (most ungiven_most unsettled_most : ℕ) : Type 0 where
+  pub near : AreNear c
+  pub come : HaveCome c.now c.marks
+  pub lists_ungiven : ungiven ≡ places not_given 0 c.marks
+  pub lists_unsettled : unsettled ≡ places not_settled 0 c.marks
+  pub ungiven_room : most ≤ ungiven_most
+  pub unsettled_room : most ≤ unsettled_most
 
 -- the next deadline to which time goes on
 abbrev pub later_of : Timed → Option ℕ

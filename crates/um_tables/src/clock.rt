@@ -1,9 +1,9 @@
 //! The contents of the clock's cell.
 
-ghost use Rattle.std.specs.Prelude.{◌≡◌, ◌<◌, ◌≤◌, ◌+◌, ◌⊎◌, [], ◌∷◌, ◌++◌, None, drop, length, if◌then◌else◌, nat_lt, false, true, IfOk, MatchOption};
+ghost use Rattle.std.specs.Prelude.{◌≡◌, ◌<◌, ◌≤◌, ◌+◌, ◌⊎◌, [], ◌∷◌, ◌++◌, None, drop, filter, length, if◌then◌else◌, nat_lt, false, true, vec_capacity, IfOk, MatchOption};
 ghost use Rattle.um_fine.specs.Clock.{deadlines, first_due, give_first, settle_first};
 ghost use Rattle.um_machine.specs.Time.{least, next_deadline};
-ghost use Rattle.um_tables.specs.Timed.{at_rest, given_of, later_of, time_of, with_marks, with_time};
+ghost use Rattle.um_tables.specs.Timed.{HaveCome, at_rest, given_of, later_of, not_given, not_settled, places, time_of, with_marks, with_time};
 
 use crate::marked::Marked;
 use std::alloc::Global;
@@ -14,16 +14,21 @@ use um_words::Mark;
 /// The greatest number of marks.
 const MOST: usize = 0xfff_ffff;
 
-/// Virtual time, and the marks that were armed, in their order. Room for all is reserved from the beginning.
+/// Virtual time, and the marks that were armed, in their order. Room for all is reserved from the beginning. A step looks through the marks
+/// that aren't given yet, or those that aren't settled yet, but never through all that were armed.
 #[derive(Drop)]
 pub struct Clock {
     time: u64,
     marks: Vec<Marked>,
+    /// The places of the marks that aren't given yet, ascending.
+    ungiven: Vec<u32>,
+    /// The places of the marks that aren't settled yet, ascending.
+    unsettled: Vec<u32>,
 }
 
 impl Model for Clock {
     ghost use Rattle.std.specs.Prelude.{vec_capacity};
-    ghost use Rattle.um_tables.specs.Timed.{AreNear, Timed};
+    ghost use Rattle.um_tables.specs.Timed.{IsListed, Timed};
 
     ghost Value = { Timed };
 
@@ -32,7 +37,8 @@ impl Model for Clock {
       most = vec_capacity c.marks;
     } };
 
-    ghost invariant = { λ c. AreNear (record { now = c.time; marks = c.marks.items }) };
+    ghost invariant = { λ c. IsListed (record { now = c.time; marks = c.marks.items }) c.ungiven.items c.unsettled.items
+        (vec_capacity c.marks) (vec_capacity c.ungiven) (vec_capacity c.unsettled) };
 }
 
 /// The lesser of a deadline and one that may not be there.
@@ -56,51 +62,56 @@ fn nearer(now: u64, deadline: u64, behind: Option<u64>) -> Option<u64>
     }
 }
 
-/// The least one of the marks from a place on, by the least one of those behind it.
-fn nearer_at(now: u64, marks: &[Marked], i: usize, behind: Option<u64>) -> Option<u64>
-    requires here { i < length marks.now }
-    requires there { behind ≡ next_deadline now (deadlines (drop (i + 1) marks.now)) }
-    ensures { result ≡ next_deadline now (deadlines (drop i marks.now)) }
-{
-    nearer(now, marks[i].deadline(), behind)
-}
-
-/// The least deadline of marks above a moment, if there is one.
-fn next_deadline(now: u64, marks: &[Marked]) -> Option<u64>
+/// The least deadline of marks above a moment, if there is one. It is one of a mark that isn't given.
+fn next_deadline(now: u64, marks: &[Marked], ungiven: &[u32]) -> Option<u64>
+    requires come { HaveCome now marks.now }
+    requires listed { ungiven.now ≡ places not_given 0 marks.now }
     ensures { result ≡ next_deadline now (deadlines marks.now) }
 {
     let mut next = None;
-    let mut i = marks.len();
-    while i > 0 {
-        i -= 1;
-        next = nearer_at(now, marks, i, next);
+    let mut k = ungiven.len();
+    while k > 0 {
+        k -= 1;
+        let i = ungiven[k] as usize;
+        next = nearer(now, marks[i].deadline(), next);
     }
     next
 }
 
-/// Gives the first of the marks that is due. Returns its deadline and what it is for.
-fn give_first(now: u64, marks: &mut [Marked]) -> Option<(u64, Mark)>
+/// Gives the first of the marks that is due, and takes its place out of those of the marks that aren't given. Returns its deadline and what
+/// it is for.
+fn give_first(now: u64, marks: &mut [Marked], ungiven: &mut Vec<u32>) -> Option<(u64, Mark)>
+    requires listed { ungiven.old.items ≡ places not_given 0 marks.old }
     ensures given { result ≡ given_of (first_due now marks.old) }
     ensures left { marks.new ≡ give_first now marks.old }
     ensures none { result ≡ None → marks.new ≡ marks.old }
+    ensures listed { ungiven.new.items ≡ places not_given 0 marks.new }
+    ensures room { vec_capacity ungiven.new ≡ vec_capacity ungiven.old }
 {
-    for i in 0..marks.len() {
+    for k in 0..ungiven.len() {
+        let i = ungiven[k] as usize;
         if marks[i].is_due(now) {
             let given = (marks[i].deadline(), marks[i].mark());
             marks[i].give();
+            ungiven.remove(k);
             return Some(given);
         }
     }
     None
 }
 
-/// Settles the first of the marks with this deadline and mark that isn't settled.
-fn settle_first(deadline: u64, mark: Mark, marks: &mut [Marked])
-    ensures { marks.new ≡ settle_first deadline mark marks.old }
+/// Settles the first of the marks with this deadline and mark that isn't settled, and takes its place out of those of the marks that aren't.
+fn settle_first(deadline: u64, mark: Mark, marks: &mut [Marked], unsettled: &mut Vec<u32>)
+    requires listed { unsettled.old.items ≡ places not_settled 0 marks.old }
+    ensures left { marks.new ≡ settle_first deadline mark marks.old }
+    ensures listed { unsettled.new.items ≡ places not_settled 0 marks.new }
+    ensures room { vec_capacity unsettled.new ≡ vec_capacity unsettled.old }
 {
-    for i in 0..marks.len() {
+    for k in 0..unsettled.len() {
+        let i = unsettled[k] as usize;
         if marks[i].is_unsettled(deadline, mark) {
             marks[i].settle();
+            unsettled.remove(k);
             return;
         }
     }
@@ -114,6 +125,8 @@ impl Clock {
         Ok(Clock {
             time: 0,
             marks: Vec::with_capacity(alloc, most)?,
+            ungiven: Vec::with_capacity(alloc, most)?,
+            unsettled: Vec::with_capacity(alloc, most)?,
         })
     }
 
@@ -144,6 +157,9 @@ impl Clock {
             (self.old.clock.marks ++ record { deadline = result; mark = mark; settled = false; given = false } ∷ []) }
     {
         let deadline = self.time + ticks as u64;
+        let place = self.marks.len() as u32;
+        self.ungiven.push_reserved(place);
+        self.unsettled.push_reserved(place);
         self.marks.push_reserved(Marked::new(deadline, mark));
         deadline
     }
@@ -153,7 +169,7 @@ impl Clock {
         ensures left { self.new ≡ with_marks self.old (settle_first deadline mark self.old.clock.marks) }
         ensures long { length self.new.clock.marks ≡ length self.old.clock.marks }
     {
-        settle_first(deadline, mark, &mut self.marks);
+        settle_first(deadline, mark, &mut self.marks, &mut self.unsettled);
     }
 
     /// Gives the first mark that is due, if there is one. Returns its deadline and what it is for.
@@ -163,14 +179,14 @@ impl Clock {
         ensures long { length self.new.clock.marks ≡ length self.old.clock.marks }
         ensures none { result ≡ None → self.new ≡ self.old }
     {
-        give_first(self.time, &mut self.marks)
+        give_first(self.time, &mut self.marks, &mut self.ungiven)
     }
 
     /// The next deadline to which time goes on, if there is one.
     pub fn later(&self) -> Option<u64>
         ensures { result ≡ later_of self.now }
     {
-        next_deadline(self.time, self.marks.as_slice())
+        next_deadline(self.time, self.marks.as_slice(), self.ungiven.as_slice())
     }
 
     /// Lets time go on to the next deadline. Returns that, if there is one.
