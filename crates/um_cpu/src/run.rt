@@ -28,7 +28,7 @@ pub struct Ended {
     pub closed: Closed<Contents>,
 }
 
-/// The processor of this number, one of so many, takes its turns.
+/// The processor of this number, one of this many, takes its turns.
 fn play<R: Wait, G: Gate>(
     rt: &R,
     image: &Image,
@@ -84,7 +84,8 @@ fn gather(
     cpus: &mut Vec<Cpu<'_>>,
     logs: &mut Vec<Log>,
 ) -> Seat<Contents>
-    requires ends { EachAt (Ends image.now board.now.table.shared.table_id (length cpus.old.items)) cpus.old.items }
+    requires ends { EachAt (Ends image.now board.now.table.shared.table_id (length cpus.old.items))
+        cpus.old.items }
     requires some { 1 ≤ length cpus.old.items }
     requires few { length cpus.old.items ≤ 8 }
     requires empty { logs.old.items ≡ [] }
