@@ -148,12 +148,12 @@ module _ (s : State) (t x : ℕ) (q : Pending) (rest : Steps) (offers : Offers s
       by (inr back) = absurd (within back)
 
   -- who makes such a step is within a call
-  abbrev is_within : Pending → Bool
+  abbrev pub is_within : Pending → Bool
   is_within (Pending.Dooms from) = true
   is_within (Pending.Start who script stack priority mode) = true
   is_within p = is_asking p
 
-  within : (p : Pending) (left : Steps) → Offers s t p left → is_within p ≡ true → IsBack (thread_at s t).pending → ⊥
+  pub within : (p : Pending) (left : Steps) → Offers s t p left → is_within p ≡ true → IsBack (thread_at s t).pending → ⊥
   within p left o h back = by o h
     where
       first : (p : Pending) (left : Steps) → is_within p ≡ true → IsBack (p ∷ left) → ⊥

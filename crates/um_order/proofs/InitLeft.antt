@@ -3,7 +3,6 @@ use Rattle.std.specs.List.{list_all}
 use Rattle.std.specs.Prelude.{◌==◌, slice_index_or, slice_set, ◌||◌, not, if◌then◌else◌}
 use Rattle.std.proofs.Common.{◌≡◌, ◌≢◌, ◌⊎◌, inl, inr, ℕ, zero, suc, ◌<◌, arith, length, Bool, true, false, List, [], ◌∷◌, Option, Some, None, refl, sym, ap, ◌∙◌, subst}
 use Rattle.std.proofs.lemmas.Bool.{and_parts, eqb-true, eqb-false, false≢true, true≢false}
-use Rattle.std.proofs.lemmas.List.{get_or-set_same}
 use Rattle.um_base.specs.declared.act.SetSaid.{SetSaid}
 use Rattle.um_base.specs.declared.ask.Waiter.{Waiter}
 use Rattle.um_base.specs.declared.limits.TheConstants.{FUTEX_CELL, JOIN_CELL}
@@ -13,14 +12,14 @@ use Rattle.um_machine.specs.Goes.{Next, went}
 use Rattle.um_machine.specs.Order.{Steps}
 use Rattle.um_machine.specs.State.{State, object_at, vacant, with_object, waiters_in, with_waiters}
 use Rattle.um_machine.specs.Table as T
-use Rattle.um_machine.specs.Writes.{Effect, wrote, Edit, Effects, edited, effect, only}
+use Rattle.um_machine.specs.Writes.{Effect, wrote, Edit, Effects, edited, effect, only, is_done}
 use Rattle.um_machine.specs.declared.object.Object.{Object}
 use Rattle.um_machine.specs.declared.pending.Pending.{Pending}
 use Rattle.um_machine.specs.declared.thread.Thread.{Thread}
 use Rattle.um_machine.proofs.AfterLemmas.{after-is, bytes-leave}
 use Rattle.um_machine.proofs.EffectLemmas.{effects_of, next_of, OfEach, all-wrote, woken-by, shared-went}
 use Rattle.um_invariants.proofs.Cores.{at_set}
-use Rattle.um_machine.specs.Writes.{is_done}
+use Rattle.um_invariants.proofs.ThreadCells.{set-either}
 
 -- the object of this row is marked by a step, and what the step says of it
 abbrev pub MarksIt : State → ℕ → Pending → Type 0
@@ -97,9 +96,14 @@ module _ (s : State) (t x y : ℕ) (q : Pending) where
       (ap (λ (o : Object). o.init) (sym (shared-went (λ (w : State). object_at w y) (λ w threads. refl) rest (wrote (effects_of s t x q) s) t (next_of s t x q)) ∙ sym (ap (λ (w : State). object_at w y) (after-is s t x q rest))) ∙ h)
 
 -- and a clearing leaves its object uninitialised
-pub cleared-init : (s : State) (t x : ℕ) (a : Addr) (rest : Steps) → T.row_of s a < length s.objects → (object_at (T.after s t x (Pending.ClearInit a) rest) (T.row_of s a)).init ≡ false
-cleared-init s t x a rest inside =
-    ap (λ (o : Object). o.init)
-    (ap (λ (w : State). object_at w (T.row_of s a)) (after-is s t x (Pending.ClearInit a) rest)
-    ∙ (shared-went (λ (w : State). object_at w (T.row_of s a)) (λ w threads. refl) rest (wrote (effects_of s t x (Pending.ClearInit a)) s) t (next_of s t x (Pending.ClearInit a))
-    ∙ get_or-set_same s.objects (T.row_of s a) (edited (Edit.inits false) (object_at s (T.row_of s a))) vacant inside))
+pub cleared-init : (s : State) (t x : ℕ) (a : Addr) (rest : Steps) → (object_at (T.after s t x (Pending.ClearInit a) rest) (T.row_of s a)).init ≡ false
+cleared-init s t x a rest =
+    ap (λ (w : State). (object_at w (T.row_of s a)).init) (after-is s t x (Pending.ClearInit a) rest)
+    ∙ (ap (λ (o : Object). o.init) (shared-went (λ (w : State). object_at w (T.row_of s a)) (λ w threads. refl) rest (wrote (effects_of s t x (Pending.ClearInit a)) s) t (next_of s t x (Pending.ClearInit a)))
+    ∙ by (set-either s.objects (T.row_of s a) (edited (Edit.inits false) (object_at s (T.row_of s a))) vacant))
+  where
+    by : (slice_index_or (slice_set s.objects (T.row_of s a) (edited (Edit.inits false) (object_at s (T.row_of s a)))) (T.row_of s a) vacant ≡ edited (Edit.inits false) (object_at s (T.row_of s a)))
+        ⊎ (slice_index_or (slice_set s.objects (T.row_of s a) (edited (Edit.inits false) (object_at s (T.row_of s a)))) (T.row_of s a) vacant ≡ vacant)
+        → (slice_index_or (slice_set s.objects (T.row_of s a) (edited (Edit.inits false) (object_at s (T.row_of s a)))) (T.row_of s a) vacant).init ≡ false
+    by (inl h) = ap (λ (o : Object). o.init) h
+    by (inr h) = ap (λ (o : Object). o.init) h

@@ -35,7 +35,7 @@ use Rattle.um_machine.proofs.WayLemmas.{HoldsOfWays, way-left}
 use Rattle.um_invariants.proofs.Cores.{core_of, kind_is}
 use Rattle.um_invariants.proofs.Guards.{row_kind, IsSited}
 use Rattle.um_invariants.proofs.Turns.{IsKnown, row_has, passed}
-use Rattle.um_fine.specs.Continues.{newborn}
+use Rattle.um_fine.specs.Addresses.{row_named}
 use Rattle.um_refinement.specs.Stops.{HasOwn}
 use Rattle.um_refinement.proofs.FirstThreads.{new-thread}
 use Rattle.um_refinement.proofs.StepsLeft.{fatal-left}
@@ -56,7 +56,7 @@ Makes image w steps = ⊥
 
 -- the next step but a visit clears the mark on the object of this thread
 abbrev pub Clears : Image → ℕ → Steps → Type 0
-Clears image w (Pending.ClearInit a ∷ rest) = row_at image a.0 ≡ Some (own_row image w)
+Clears image w (Pending.ClearInit a ∷ rest) = row_named image a ≡ own_row image w
 Clears image w (Pending.Drops from ∷ rest) = Clears image w rest
 Clears image w (Pending.Inherit who ∷ rest) = Clears image w rest
 Clears image w steps = ⊥
