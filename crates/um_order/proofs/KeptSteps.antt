@@ -1,5 +1,6 @@
 -- What goes along one processor's steps beside the relation and the point's order: what is left of calls, that who waits stands somewhere, whom the point is to
--- cut, who made the last event, that no mark is behind now, and that a word is read again only behind a wait. It is so at the opening, and each step keeps it.
+-- cut, who made the last event, that no mark is behind now, that a word is read again only behind a wait, and what calls mark. It is so at the opening, and each
+-- step keeps it.
 use Rattle.std.specs.Prelude.{slice_index_or, is_some, not, ◌&&◌, if◌then◌else◌, ◌==◌, ◌||◌}
 use Rattle.std.proofs.Common.{◌≡◌, ◌⊎◌, inl, inr, ℕ, ◌+◌, ◌<◌, arith, length, Bool, true, false, [], ◌∷◌, Some, None, refl, sym, ap, ◌∙◌, subst, ne_eqb, zero, suc}
 use Rattle.std.proofs.lemmas.Bool.{and_parts, false≢true, true≢false, not-true, lt-ltb}
@@ -22,6 +23,7 @@ use Rattle.um_invariants.specs.Described.{IsDescribed}
 use Rattle.um_invariants.specs.InOrder.{Follows, Point, opening_point}
 use Rattle.um_invariants.proofs.Cores.{core_of, call_is, status_is, Call}
 use Rattle.um_invariants.proofs.Facts.{is_standing}
+use Rattle.um_invariants.proofs.Guards.{IsSited}
 use Rattle.um_invariants.proofs.Turns.{IsKnown}
 use Rattle.um_words.specs.declared.fine.FineAct.{FineAct}
 use Rattle.um_words.specs.declared.fine.More.{More}
@@ -37,7 +39,7 @@ use Rattle.um_refinement.proofs.Erased.{IsReachable, GoesBy, around}
 use Rattle.um_refinement.proofs.First.{first}
 use Rattle.um_refinement.proofs.FirstThreads.{new-thread, opening-is}
 use Rattle.um_refinement.proofs.IdleComplete.{one-holds}
-use Rattle.um_refinement.proofs.Leaves.{Lawful}
+use Rattle.um_refinement.proofs.Leaves.{Lawful, Leaves}
 use Rattle.um_refinement.proofs.Reachable.{IsSound}
 use Rattle.um_refinement.proofs.SuitsKnown.{works-known, waits-known, proper-known}
 use Rattle.um_refinement.proofs.WaitersFound.{WaitersWait}
@@ -46,6 +48,8 @@ use Rattle.um_order.proofs.ArmingOrder.{AreSettled}
 use Rattle.um_order.proofs.CallsKept.{AreCalls, AtMostOne, calls-after}
 use Rattle.um_order.proofs.CutNow.{CutsNext, cuts-follow}
 use Rattle.um_order.proofs.Follow.{FollowsBy}
+use Rattle.um_order.proofs.InitsKept.{AllInits, inits-after}
+use Rattle.um_order.proofs.JoinLeast.{ShutMid, mid-next, opening-inits, opening-shut}
 use Rattle.um_order.proofs.LastMade.{IsLast, last-next}
 use Rattle.um_order.proofs.MarksNow.{IsAhead, ahead-next}
 use Rattle.um_order.proofs.OneAct.{IsCall, IsSettled}
@@ -61,6 +65,8 @@ pub record Keeps (f : Fine) (p : Processor) (at : Point) : Type 0 where
   pub last : IsLast f.image p (clock f).marks at
   pub ahead : IsAhead (clock f) p.todo
   pub reads : ReadsWaiting p
+  pub inits : AllInits f.image at.state
+  pub shut : ShutMid f at.state
 
 -- Nobody waits on an object that is free, or that nobody holds: whoever waits on one holds it.
 pub none-waits : (m : State) → IsSound m → WaitersWait m → WaitersHold m → NoneWait m
@@ -136,8 +142,13 @@ module _ (f : Fine) (at : Point) (e : FineStep) (law : Lawful f at.state e) (one
         (stands-after m event.thread.0 made.row made.step made.rest made.offered made.chosen proper was.calls waits (none-waits m law.sound waits holds) law.sound.wide.objects
         (λ a ask same. row-below event.thread.0 (T.row_of m a) (works event.thread.0 a ask made.rest (subst (λ q. Offers m event.thread.0 q made.rest) same made.offered))) was.stand)
 
-  pub keeps-next : (s2 : State) (to : Point) → GoesBy at.state e.act s2 → FollowsBy at e.act to → to.state ≡ s2 → Keeps later now to
-  keeps-next s2 to goes follows same =
+    inits-next : AllInits f.image to.state
+    inits-next =
+        subst (AllInits f.image) (sym made.leaves)
+        (inits-after f.image (subst IsSited law.rel.image law.sound.known.reached.sited) m law.rel.image law.sound.known was.inits event.thread.0 made.row made.step made.rest made.offered)
+
+  pub keeps-next : (s2 : State) (to : Point) → Leaves f m e s2 → GoesBy at.state e.act s2 → Rel later s2 → FollowsBy at e.act to → to.state ≡ s2 → Keeps later now to
+  keeps-next s2 to left goes related follows same =
       record {
         calls = (by e.act (subst (GoesBy m e.act) (sym same) goes) follows).0;
         stand = (by e.act (subst (GoesBy m e.act) (sym same) goes) follows).1;
@@ -145,8 +156,14 @@ module _ (f : Fine) (at : Point) (e : FineStep) (law : Lawful f at.state e) (one
         last = last-next f at e law to was.last follows;
         ahead = ahead-next f m e law chosen settled-idle was.ahead;
         reads = reads-next f m e law was.reads;
+        inits = inits-then e.act (subst (GoesBy m e.act) (sym same) goes);
+        shut = subst (ShutMid later) (sym same) (mid-next f m e law proper (at-most-one f m law.rel one law.sound.wide.threads) was.calls was.inits was.shut s2 left goes related);
       }
     where
+      inits-then : (act : FineAct) → GoesBy m act to.state → AllInits f.image to.state
+      inits-then (FineAct.Shown event more) made = inits-next event to made
+      inits-then (FineAct.Unseen u) stays = subst (AllInits f.image) (sym stays) was.inits
+
       by : (act : FineAct) → GoesBy m act to.state → FollowsBy at act to → AreCalls to.state × AllStand to.state × CutsNext to
       by (FineAct.Shown event more) made h = (calls-next event to made, stand-next event to made, cuts-follow at event to proper was.calls was.cuts made h)
       by (FineAct.Unseen u) stays h = subst (λ (z : Point). AreCalls z.state × AllStand z.state × CutsNext z) (sym h) (was.calls, was.stand, was.cuts)
@@ -170,6 +187,8 @@ opening-keeps image =
       last = inl refl;
       ahead = record { marks = refl; hand = λ deadline mark rest none. absurd (false≢true (ap has_steps none)) };
       reads = λ awake. refl;
+      inits = opening-inits image;
+      shut = opening-shut image;
     }
   where
     dooms_first : Steps → Bool

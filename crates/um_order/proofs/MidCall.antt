@@ -59,11 +59,11 @@ module _ (image : Image) (w : ℕ) where
   mid-awake (q ∷ rest) mid e = false≢true e
 
   -- behind an inheritance, and behind the drops of an end
-  behind-inherit : (who : ThreadIx) (steps : Steps) → IsMid image w (Pending.Inherit who ∷ steps) → IsMid image w steps
+  pub behind-inherit : (who : ThreadIx) (steps : Steps) → IsMid image w (Pending.Inherit who ∷ steps) → IsMid image w steps
   behind-inherit who steps (inl h) = inl h
   behind-inherit who steps (inr h) = inr h
 
-  behind-drops : (from : ℕ) (steps : Steps) → IsMid image w (Pending.Drops from ∷ steps) → IsMid image w steps
+  pub behind-drops : (from : ℕ) (steps : Steps) → IsMid image w (Pending.Drops from ∷ steps) → IsMid image w steps
   behind-drops from steps (inl h) = absurd h
   behind-drops from steps (inr h) = inr h
 

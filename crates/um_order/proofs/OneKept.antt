@@ -62,6 +62,7 @@ use Rattle.um_order.proofs.BesideFull.{besides-full}
 use Rattle.um_order.proofs.CallsKept.{AtMostOne}
 use Rattle.um_order.proofs.Follow.{FollowsBy}
 use Rattle.um_order.proofs.FullKept.{full-kept}
+use Rattle.um_order.proofs.JoinLeast.{join-least}
 use Rattle.um_order.proofs.KeptSteps.{Keeps, keeps-next, none-waits}
 use Rattle.um_order.proofs.KnownStirs.{stir-goes, stir-who}
 use Rattle.um_order.proofs.KnownWaits.{abort-waits, hand-waits, look-waits, word-calm}
@@ -79,12 +80,6 @@ pub record Holds (image : Image) (ps : ℕ → Processor) (ss : Site → SiteSta
   pub stands : Stands (ps 0) (scheduler (fine image 1 ps ss)) (joins (fine image 1 ps ss)) (clock (fine image 1 ps ss)).marks at
   pub full : runs (ps 0) ≡ true → IsFull at.state (ps 0).context.thread (ps 0).context.pending
   pub keeps : Keeps (fine image 1 ps ss) (ps 0) at
-
--- a join that says that its thread is no longer joined has the least row
-abbrev pub JoinsLeast : Fine → State → FineStep → Type 0
-JoinsLeast f m e =
-    (who : ThreadIx) (timeout : Timeout) (rest : Steps) (todo : Todos) (x : ℕ) → Shows f m e.cpu e (Pending.Join who timeout) rest todo → IsStep f m e.cpu e x (Pending.Join who timeout) → x < 2
-    → IsLeast m (f.processors e.cpu).context.thread (Pending.Join who timeout) x
 
 module _ (image : Image) (described : IsDescribed image) (known : IsKnown (core_of (opening image))) (ps : ℕ → Processor) (ss : Site → SiteState) (at : Point) (e : FineStep) (holds : Holds image ps ss at)
     (by : ByOneOf image 1 (ps (cpu_of e)) e) (taken : SiteMay image (ss (site_of e)) e) where
@@ -145,8 +140,8 @@ module _ (image : Image) (described : IsDescribed image) (known : IsKnown (core_
       abort-not : (a : Addr) (ask : Ask) → Pending.Abort who ≡ Pending.Work a ask → ⊥
       abort-not a ask same = cc
 
-  knows-so : IsChosen f e → (s2 : State) → GoesBy m e.act s2 → Rel (stepped image 1 ps ss e) s2 → JoinsLeast f m e → Knows
-  knows-so chosen s2 goes related least =
+  knows-so : IsChosen f e → (s2 : State) → GoesBy m e.act s2 → Rel (stepped image 1 ps ss e) s2 → Knows
+  knows-so chosen s2 goes related =
       record {
         chosen = chosen;
         full = subst (λ k. runs (ps k) ≡ true → IsFull m (ps k).context.thread (ps k).context.pending) (sym first) holds.full;
@@ -156,7 +151,7 @@ module _ (image : Image) (described : IsDescribed image) (known : IsKnown (core_
         stir_who = stir-who f m e law proper one-within keeps-there.calls;
         abort_idle = λ who rest todo x h later_related none.
             abort-waits f m e who rest todo (T.after m (ps e.cpu).context.thread x (Pending.Abort who) rest) law h later_related (wide-then x who rest todo h).threads (wide-then x who rest todo h).objects (stand-then who rest todo x h) none;
-        join_least = least;
+        join_least = λ who timeout rest todo x h. join-least f m e law proper one-within keeps-there.calls keeps-there.inits keeps-there.shut described.lawful waits-so who timeout rest todo h x;
         last_time = λ some. time some keeps-there.last;
         hand_void = hand-waits f at e law refl waits-so holds-so keeps-there.stand keeps-there.cuts keeps-there.ahead;
       }
@@ -176,9 +171,9 @@ module _ (image : Image) (described : IsDescribed image) (known : IsKnown (core_
           (reach-on image 1 m s3 (FineAct.Shown (record { thread = to_thread t; act = T.act_of m t x (Pending.Abort who) }) More.Nothing) holds.reach
           (record { step = Pending.Abort who; rest = rest; row = x; offered = shown-offers h; chosen = tt; says = refl; leaves = refl }))
 
-  pub step-kept : IsChosen f e → JoinsLeast f m e
+  pub step-kept : IsChosen f e
       → (to : Point) × FollowsBy at e.act to × Holds image (changed same_cpu cpu_of (p_next image) ps e) (changed same_site site_of (s_next image) ss e) to
-  step-kept chosen least =
+  step-kept chosen =
       let sited = subst IsSited (opening-image image) known.reached.sited in
       let rests = rests-known image 1 described known m holds.reach in
       let own = own-known image described.lawful sited in
@@ -200,7 +195,7 @@ module _ (image : Image) (described : IsDescribed image) (known : IsKnown (core_
       let tells2 = (suits-known image 1 described known next.state onwards (stepped image 1 ps ss e) related-then).tells in
       let full-there : runs (ps e.cpu) ≡ true → IsFull m (ps e.cpu).context.thread (ps e.cpu).context.pending = subst (λ k. runs (ps k) ≡ true → IsFull m (ps k).context.thread (ps k).context.pending) (sym first) holds.full in
       let stands-there : Stands (ps e.cpu) (scheduler f) (joins f) (clock f).marks at = subst (λ k. Stands (ps k) (scheduler f) (joins f) (clock f).marks at) (sym first) holds.stands in
-      let got = by-leaves f at e law refl orderly kept lawful suits all proper holds.bounds (knows-so chosen next.state next.goes related-then least) own rests next.state next.leaves next.has related-then tells2 bounds stands-there in
+      let got = by-leaves f at e law refl orderly kept lawful suits all proper holds.bounds (knows-so chosen next.state next.goes related-then) own rests next.state next.leaves next.has related-then tells2 bounds stands-there in
       let now : changed same_cpu cpu_of (p_next image) ps e 0 ≡ p_next image (ps e.cpu) e =
       sym (ap (changed same_cpu cpu_of (p_next image) ps e) first) ∙ ap (λ b. cond b (p_next image (ps e.cpu) e) (ps e.cpu)) (eq-eqb e.cpu e.cpu refl) in (
         got.point,
@@ -214,6 +209,6 @@ module _ (image : Image) (described : IsDescribed image) (known : IsKnown (core_
               (λ on. subst (λ (s : State). IsFull s (p_next image (ps e.cpu) e).context.thread (p_next image (ps e.cpu) e).context.pending) (sym got.state)
               (full-kept f at e law refl kept orderly lawful (calls-known m law.sound rests) own (λ t x q how chosen on. besides-full f at e law full-there t x q how on) full-there next.state next.leaves next.has on));
           keeps = subst (λ (p : Processor). Keeps (stepped image 1 ps ss e) p got.point) (sym now)
-              (keeps-next f at e law refl proper waits-so holds-so works-so chosen keeps-there next.state got.point next.goes got.follows got.state);
+              (keeps-next f at e law refl proper waits-so holds-so works-so chosen keeps-there next.state got.point next.leaves next.goes related-then got.follows got.state);
         },
       )
