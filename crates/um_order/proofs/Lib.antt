@@ -10,6 +10,11 @@
 -- ShowSteps, of pending steps, and ArmOrder, of deadlines; StirOrder, StopOrder and AbortOrder, of those that stop or continue a thread (NotedBusy: one with a note isn't at rest); LeaveOrder, of an end
 -- that is told; VisitOrder and CleanOrder, of permissions and cleanings; TakeOrder, of woken threads; TickOrder, HandOrder and TimedOutOrder, of time. FullKept and BesideFull:
 -- which permissions stay due. Settled: all marks are, where the processor has no list. OneStep: any step; OneKept: what goes along; OneRuns: runs.
+--
+-- What one processor keeps beside that: OneAct, ThreadsMoved, CallsMoved and CallsKept, of the steps that are left of calls, where at most one thread is within
+-- one (OneWithin); CutNow, of whom the point is to cut; MarksNow, of marks that come too late; LastMade, of who made the last event; ServedAll and WaitersStand,
+-- of who waits; ReadsWord, of words that are read again; InitShapes, InitsKept, InitLeft and MidCall, of objects that a creation marks. KeptSteps has all of
+-- it. KnownStirs, KnownWaits and JoinLeast: what follows of a step.
 mod CleanNow
 mod ArmingOrder
 mod Standing
@@ -46,5 +51,20 @@ mod OneAct
 mod ThreadsMoved
 mod CallsMoved
 mod CallsKept
+mod OneWithin
+mod CutNow
+mod MarksNow
+mod LastMade
+mod ServedAll
+mod WaitersStand
+mod ReadsWord
+mod KnownStirs
+mod KnownWaits
+mod InitShapes
+mod InitsKept
+mod InitLeft
+mod MidCall
+mod JoinLeast
+mod KeptSteps
 mod OneKept
 mod OneRuns
