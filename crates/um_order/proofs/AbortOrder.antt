@@ -1,9 +1,9 @@
 -- A thread stops another one: the event follows, and the processor looks whether that one waits, if it has a note, or else whether it sleeps. One that stops
 -- itself goes on to its end.
-use Rattle.std.proofs.Common.{◌≡◌, ◌⊎◌, inl, inr, ℕ, ◌+◌, ◌<◌, Bool, true, false, List, [], ◌∷◌, ◌++◌, Option, Some, None, refl, sym, ap, ◌∙◌, subst, arith, append-nil, eq-eqb}
+use Rattle.std.proofs.Common.{◌≡◌, ◌⊎◌, inl, inr, ℕ, ◌<◌, Bool, true, false, List, [], ◌∷◌, ◌++◌, Option, Some, None, refl, sym, ap, ◌∙◌, subst, arith, append-nil, eq-eqb}
 use Rattle.std.specs.Prelude.{◌==◌, ◌&&◌, not, if◌then◌else◌, is_some}
 use Rattle.std.specs.List.{list_any}
-use Rattle.std.proofs.lemmas.Bool.{and_parts, eqb-true, false≢true, true≢false}
+use Rattle.std.proofs.lemmas.Bool.{eqb-true, false≢true, true≢false}
 use Rattle.um_base.specs.declared.act.Act.{Act}
 use Rattle.um_base.specs.declared.act.Answer.{Answer}
 use Rattle.um_base.specs.declared.image.Image.{Image}
@@ -19,25 +19,24 @@ use Rattle.um_invariants.specs.InOrder.{Point, to_cut, waiting}
 use Rattle.um_invariants.specs.Lines.{all_join}
 use Rattle.um_invariants.specs.Ready.{behind_next, is_at_rest, next_ready, ready_after, roused, running_or}
 use Rattle.um_words.specs.declared.fine.FineAct.{FineAct}
-use Rattle.um_words.specs.declared.fine.More.{More}
-use Rattle.um_fine.specs.Answers.{act_in, answer_in, is_done_in, is_killed, is_word_read, thread_in}
-use Rattle.um_fine.specs.Asks.{begins_cleaning, more_of, says_step, shows}
+use Rattle.um_fine.specs.Answers.{act_in, answer_in, is_done_in, is_killed, thread_in}
+use Rattle.um_fine.specs.Asks.{begins_cleaning, more_of, says_step}
 use Rattle.um_fine.specs.Clock.{Clock}
 use Rattle.um_fine.specs.Context.{Context}
 use Rattle.um_fine.specs.Continues.{continues}
-use Rattle.um_fine.specs.Follows.{after_show, filled_up, goes_on_by, looks_for, rereads, shown_step, with_actor}
+use Rattle.um_fine.specs.Follows.{after_show, filled_up, looks_for, rereads, with_actor}
 use Rattle.um_fine.specs.Joins.{sleeps}
 use Rattle.um_fine.specs.Places.{Todo, Todos, next_steps, put_away}
 use Rattle.um_fine.specs.Processor.{Processor}
 use Rattle.um_fine.specs.Sites.{same_site}
 use Rattle.um_fine.specs.Steps.{FineStep, Site}
-use Rattle.um_refinement.specs.Fine.{Fine, clock, joins, one_if, scheduler}
+use Rattle.um_refinement.specs.Fine.{Fine, clock, joins, scheduler}
 use Rattle.um_refinement.specs.Lists.{adders, of_thread, runs}
 use Rattle.um_refinement.specs.Offers.{Fits, IsOffered, is_over}
 use Rattle.um_refinement.specs.Relation.{Rel}
 use Rattle.um_refinement.specs.Threads.{IsOf, cutters as cuts, runs_on}
 use Rattle.um_refinement.proofs.ChildrenKnown.{AllCreate}
-use Rattle.um_refinement.proofs.ContextsPart.{event-uncut, now-context}
+use Rattle.um_refinement.proofs.ContextsPart.{event-uncut}
 use Rattle.um_refinement.proofs.Erased.{around}
 use Rattle.um_refinement.proofs.LawfulSteps.{Suits}
 use Rattle.um_refinement.proofs.Leaves.{Lawful, event}
@@ -57,7 +56,7 @@ use Rattle.um_order.proofs.ListShapes.{is_own}
 use Rattle.um_order.proofs.NextSteps.{leads, next-is}
 use Rattle.um_order.proofs.RousedLines.{roused-line}
 use Rattle.um_order.proofs.ShowSteps.{goes-offered, goes-some}
-use Rattle.um_order.proofs.Standing.{Begun, IsFull, back, comers, goes, inside_of, is_show}
+use Rattle.um_order.proofs.Standing.{Begun, IsFull, back, comers, goes, is_show}
 use Rattle.um_order.proofs.StirOrder.{IsStir, line, not-rests, to-itself, to-looks, to-rouses}
 
 no-reread : (image : Image) (answer : Answer) → rereads image answer None [] ≡ []

@@ -1,7 +1,7 @@
 -- A deadline that a thread arms is the last of the clock's marks, and the last of the point's armings. No other event of a pending step arms one.
-use Rattle.std.proofs.Common.{◌≡◌, ℕ, ◌+◌, ◌<◌, Bool, true, false, List, [], ◌∷◌, ◌++◌, Option, Some, None, refl, sym, ap, ◌∙◌, subst, arith, ne_eqb}
-use Rattle.std.specs.Prelude.{◌==◌, if◌then◌else◌, slice_get}
-use Rattle.std.proofs.lemmas.Bool.{false≢true, ltb-true, true≢false}
+use Rattle.std.proofs.Common.{◌≡◌, ℕ, ◌+◌, ◌<◌, Bool, true, false, [], ◌∷◌, ◌++◌, Some, refl, sym, ap, ◌∙◌, subst, arith, ne_eqb}
+use Rattle.std.specs.Prelude.{if◌then◌else◌, slice_get}
+use Rattle.std.proofs.lemmas.Bool.{ltb-true, true≢false}
 use Rattle.um_base.specs.declared.act.Act.{Act}
 use Rattle.um_base.specs.declared.ask.Ask.{Ask}
 use Rattle.um_base.specs.declared.image.Image.{Image}
@@ -28,7 +28,7 @@ use Rattle.um_fine.specs.Clock.{Clock}
 use Rattle.um_fine.specs.Continues.{continues}
 use Rattle.um_fine.specs.Context.{Context}
 use Rattle.um_fine.specs.Places.{Todo, Todos, is_timer_start, mark_for}
-use Rattle.um_fine.specs.Steps.{Exchange, FineStep, Site}
+use Rattle.um_fine.specs.Steps.{FineStep, Site}
 use Rattle.um_refinement.specs.Fine.{Fine, clock}
 use Rattle.um_refinement.specs.Lists.{is_arm}
 use Rattle.um_refinement.specs.Stops.{cell_site}

@@ -1,28 +1,25 @@
 -- Where at most one thread is within a call, as on one processor: each thread that is aborted or doomed has no step left by which it acts in a cell, or stops
 -- or goes on with a thread; and while one dooms all, no other one is within a call. Each step of the machine keeps that.
-use Rattle.std.specs.Prelude.{IsTrue, ◌&&◌, ◌||◌, not, nat_lt, is_some, ◌==◌, if◌then◌else◌, slice_index_or}
-use Rattle.std.proofs.Common.{◌≡◌, ◌≢◌, ◌⊎◌, inl, inr, ℕ, ◌+◌, ◌<◌, ◌≤◌, arith, length, Bool, true, false, List, [], ◌∷◌, Option, Some, None, refl, sym, ap, ◌∙◌, subst, zero, suc}
-use Rattle.std.proofs.lemmas.Bool.{and_parts, false≢true, true≢false, eqb-true, eqb-false, lt-ltb, ltb-false, ltb-true}
+use Rattle.std.specs.Prelude.{IsTrue, ◌||◌, not, nat_lt, ◌==◌, if◌then◌else◌, slice_index_or}
+use Rattle.std.proofs.Common.{◌≡◌, ◌≢◌, ◌⊎◌, inl, inr, ℕ, ◌+◌, ◌<◌, ◌≤◌, arith, length, Bool, true, false, List, [], ◌∷◌, refl, sym, ap, ◌∙◌, subst, zero, suc}
+use Rattle.std.proofs.lemmas.Bool.{and_parts, false≢true, true≢false, eqb-true, eqb-false, ltb-false, ltb-true}
 use Rattle.std.proofs.lemmas.List.{get_or-set_same, length-set}
 use Rattle.um_base.specs.declared.limits.TheConstants.{THREADS}
-use Rattle.um_machine.specs.Goes.{Next, gone, next_doom, went}
+use Rattle.um_machine.specs.Goes.{Next, next_doom, went}
 use Rattle.um_machine.specs.Order.{Steps}
 use Rattle.um_machine.specs.Run.{MayChoose, Offers, goes, skips_inherit, skips_drops, begins, exits, leaves, stops, tends, may_go, is_tending}
-use Rattle.um_machine.specs.State.{State, nobody, thread_at, with_thread, is_waiting, is_to_resume, waiters_in}
+use Rattle.um_machine.specs.State.{State, nobody, thread_at, with_thread, is_waiting, is_to_resume}
 use Rattle.um_machine.specs.Table as T
-use Rattle.um_machine.specs.Writes.{wrote, flagged}
 use Rattle.um_machine.specs.declared.pending.Pending.{Pending}
 use Rattle.um_machine.specs.declared.thread.Thread.{Thread}
 use Rattle.um_machine.proofs.AfterLemmas.{after-is}
-use Rattle.um_machine.proofs.EffectLemmas.{effects_of, next_of}
 use Rattle.um_invariants.proofs.Cores.{at_set}
 use Rattle.um_invariants.proofs.ThreadWords.{is_beside}
-use Rattle.um_fine.specs.Seeking.{stands_in}
 use Rattle.um_refinement.proofs.CallSteps.{Proper}
 use Rattle.um_refinement.proofs.CallsProper.{AreProper}
 use Rattle.um_order.proofs.CallsMoved.{is_odd, odd-not, DoomsFrom, IsNow, calls, dooms, is_begin, now-is, stays, waits}
-use Rattle.um_order.proofs.OneAct.{Calls, IsCall, IsSettled, Quiet, calls-call, is_asking, quiet-calls, quiet-settled, settled-call}
-use Rattle.um_order.proofs.ThreadsMoved.{beside-left, AbortsIt, AreFlagged, DoomsIt, IsLeft, IsShort, Shortens, flags-left, other-left, short-quiet}
+use Rattle.um_order.proofs.OneAct.{Calls, IsCall, IsSettled, Quiet, calls-call, is_asking, quiet-calls, quiet-settled}
+use Rattle.um_order.proofs.ThreadsMoved.{beside-left, AbortsIt, AreFlagged, DoomsIt, IsShort, Shortens, flags-left, other-left, short-quiet}
 
 -- not within a call: at rest, in a wait or behind one, or to be killed
 abbrev pub IsBack : Steps → Type 0

@@ -1,8 +1,7 @@
 -- What a step of the machine leaves of the steps of the thread that makes it: those of a call, a doom of all, a wait, or what others leave of them.
 use Rattle.std.specs.Prelude.{is_some, IsTrue}
-use Rattle.std.proofs.Common.{◌≡◌, ◌⊎◌, inl, inr, ℕ, ◌+◌, Bool, true, false, List, [], ◌∷◌, Option, Some, None, refl, sym, ap, ◌∙◌, subst}
+use Rattle.std.proofs.Common.{◌≡◌, ◌⊎◌, inl, inr, ℕ, ◌+◌, Bool, true, false, List, [], ◌∷◌, Option, Some, None, refl, sym, ◌∙◌, subst}
 use Rattle.std.proofs.lemmas.Bool.{false≢true, true≢false}
-use Rattle.um_base.specs.declared.act.Answer.{Answer}
 use Rattle.um_base.specs.declared.ask.Told.{Told}
 use Rattle.um_base.specs.declared.image.Image.{Image}
 use Rattle.um_base.specs.declared.instr.Instr.{Instr}
@@ -15,12 +14,12 @@ use Rattle.um_machine.specs.Table as T
 use Rattle.um_machine.specs.Writes.{wrote}
 use Rattle.um_machine.specs.declared.pending.Pending.{Pending}
 use Rattle.um_machine.specs.declared.thread.Thread.{Thread}
-use Rattle.um_machine.proofs.EffectLemmas.{effects_of, next_of, image-wrote}
+use Rattle.um_machine.proofs.EffectLemmas.{effects_of, next_of}
 use Rattle.um_invariants.proofs.ThreadWords.{is_beside}
 use Rattle.um_refinement.proofs.CallSteps.{Proper}
 use Rattle.um_refinement.proofs.CallsProper.{AreProper}
-use Rattle.um_order.proofs.OneAct.{Calls, DoomsNext, IsCall, IsGone, IsSettled, Needs, Quiet, calls-call, calls-closed, calls-steps, gone-left, inner-needs, is_asking, is_inner, quiet-calls, quiet-closed, quiet-settled, settled-call}
-use Rattle.um_order.proofs.ThreadsMoved.{IsLeft, IsMoved, IsShort, Shortens, beside-left, own-after, short-quiet}
+use Rattle.um_order.proofs.OneAct.{Calls, DoomsNext, IsCall, IsGone, IsSettled, Quiet, calls-closed, calls-steps, gone-left, inner-needs, is_asking, is_inner, quiet-calls, quiet-closed}
+use Rattle.um_order.proofs.ThreadsMoved.{IsMoved, IsShort, Shortens, beside-left, own-after}
 
 -- the steps that no call has
 abbrev pub is_odd : Pending → Bool

@@ -1,37 +1,34 @@
 -- On one processor an aborted thread waits only until the next event, which is its cut; and whoever is to be cut is aborted.
-use Rattle.std.specs.Prelude.{is_some, ◌&&◌, ◌==◌, not, if◌then◌else◌, slice_index_or}
-use Rattle.std.proofs.Common.{◌≡◌, ◌≢◌, ◌⊎◌, inl, inr, ℕ, Bool, true, false, List, [], ◌∷◌, Option, Some, None, refl, sym, ap, ◌∙◌, subst, length, ◌<◌, arith, zero, suc, ◌+◌}
-use Rattle.std.proofs.lemmas.Bool.{and_parts, and_from, eqb-true, eqb-false, false≢true, true≢false, not-true}
+use Rattle.std.specs.Prelude.{is_some, ◌==◌, not, if◌then◌else◌, slice_index_or}
+use Rattle.std.proofs.Common.{◌≡◌, ◌⊎◌, inl, inr, ℕ, Bool, true, false, List, [], ◌∷◌, Option, Some, None, refl, sym, ap, ◌∙◌, subst, length, ◌<◌, arith, zero, suc}
+use Rattle.std.proofs.lemmas.Bool.{and_parts, and_from, eqb-true, eqb-false, false≢true, true≢false}
 use Rattle.std.proofs.lemmas.List.{get_or-set_same}
 use Rattle.um_base.specs.declared.act.Act.{Act}
 use Rattle.um_base.specs.declared.act.Event.{Event}
 use Rattle.um_base.specs.declared.ask.Told.{Told}
 use Rattle.um_base.specs.declared.names.Access.TheVariants as Access
 use Rattle.um_base.specs.declared.names.ThreadIx.{ThreadIx}
-use Rattle.um_machine.specs.Goes.{went, Next}
+use Rattle.um_machine.specs.Goes.{went}
 use Rattle.um_machine.specs.Memory.{allowed}
 use Rattle.um_machine.specs.Order.{Steps, to_thread}
 use Rattle.um_machine.specs.Run.{MayChoose, Offers, Step}
 use Rattle.um_machine.specs.Services.{without}
 use Rattle.um_machine.specs.State.{State, nobody, thread_at, with_thread, is_living, is_waiting, is_to_resume, with_waiters, waiters_in}
 use Rattle.um_machine.specs.Table as T
-use Rattle.um_machine.specs.Writes.{wrote, Flag, flagged, cut}
+use Rattle.um_machine.specs.Writes.{Flag, flagged, cut}
 use Rattle.um_machine.specs.declared.pending.Pending.{Pending}
 use Rattle.um_machine.specs.declared.thread.Thread.{Thread}
-use Rattle.um_machine.proofs.AfterLemmas.{after-is}
-use Rattle.um_machine.proofs.EffectLemmas.{effects_of, next_of}
+use Rattle.um_machine.proofs.EffectLemmas.{next_of}
 use Rattle.um_invariants.specs.Armings.{Aim, Arming, gone_through, late_step, timer, waiter}
 use Rattle.um_invariants.specs.InOrder.{CleansUp, CutsShort, Follows, GoesOn, PassesTime, Point, is_cleaning, time_step, to_cut}
 use Rattle.um_invariants.proofs.Cores.{at_set}
 use Rattle.um_invariants.proofs.ThreadCells.{set-either}
 use Rattle.um_invariants.proofs.ThreadWords.{is_beside}
-use Rattle.um_words.specs.declared.fine.FineAct.{FineAct}
-use Rattle.um_words.specs.declared.fine.More.{More}
 use Rattle.um_refinement.proofs.CallsProper.{AreProper}
 use Rattle.um_refinement.proofs.Offered.{either-act}
 use Rattle.um_order.proofs.CallsKept.{AreCalls}
 use Rattle.um_order.proofs.CallsMoved.{IsNow, IsOffered, asks, beside, calls, dooms, inner, is_act, now-is, offered-is, resumes, rises, stays, waits}
-use Rattle.um_order.proofs.OneAct.{Calls, IsCall, IsSettled, is_asking, is_inner}
+use Rattle.um_order.proofs.OneAct.{Calls, IsSettled, is_inner}
 use Rattle.um_order.proofs.ThreadsMoved.{AbortsIt, IsLeft, IsShort, Shortens, beside-left, flags-left, other-left, short-awake}
 
 pub record CutsNext (at : Point) : Type 0 where

@@ -1,5 +1,5 @@
 -- Every lawful step of the one processor keeps `IsFull`: what its thread has still to pass on or to drop is due.
-use Rattle.std.proofs.Common.{Bool, List, None, Option, Some, [], ap, arith, false, length, map, refl, subst, suc, sym, true, zero, ℕ, ◌+◌, ◌<◌, ◌∙◌, ◌∷◌, ◌≡◌, ◌≢◌, ◌≤◌, ◌⊎◌, inl, inr}
+use Rattle.std.proofs.Common.{Bool, List, None, Option, Some, [], ap, arith, false, length, map, refl, subst, suc, sym, true, zero, ℕ, ◌+◌, ◌<◌, ◌∙◌, ◌∷◌, ◌≡◌, ◌≢◌, ◌≤◌, inl, inr}
 use Rattle.std.proofs.lemmas.Bool.{eqb-false, eqb-true, false≢true, true≢false, not-true}
 use Rattle.std.proofs.lemmas.List.{get_or-set_other, get_or-set_same}
 use Rattle.std.specs.Prelude.{if◌then◌else◌, nat_lt, not, slice_index_or, slice_set, ◌&&◌, ◌==◌, ◌||◌}
@@ -11,10 +11,9 @@ use Rattle.um_base.specs.declared.ask.Told.{Told}
 use Rattle.um_base.specs.declared.image.Image.{Image}
 use Rattle.um_base.specs.declared.limits.TheConstants.{THREADS}
 use Rattle.um_base.specs.declared.names.Policy.{Policy}
-use Rattle.um_base.specs.declared.names.Reply.{Reply}
 use Rattle.um_base.specs.declared.names.ThreadIx.{ThreadIx}
 use Rattle.um_machine.proofs.EffectLemmas.{effects_of}
-use Rattle.um_machine.specs.Goes.{Next, Way, at_end, gone, went, told_way}
+use Rattle.um_machine.specs.Goes.{Next, at_end, gone, went, told_way}
 use Rattle.um_machine.specs.Order.{Steps, end_steps, fatal_steps, steps_of, to_thread}
 use Rattle.um_machine.specs.Run.{MayChoose, MayClean, Offers}
 use Rattle.um_machine.specs.State.{State, nobody, pair_at, thread_at, with_pair, with_thread}
@@ -39,16 +38,15 @@ use Rattle.um_refinement.proofs.ChildSteps.{Creates, InOrder, order-steps}
 use Rattle.um_refinement.proofs.ChildrenKnown.{AllCreate, Stands, offered-stands}
 use Rattle.um_refinement.proofs.ClaimRoom.{child-claims}
 use Rattle.um_refinement.proofs.CleanSteps.{Calls, OwnRows}
-use Rattle.um_refinement.proofs.ContextsPart.{is_shown, is_sleep_step, now-context, quiet-context, ran, take-context}
+use Rattle.um_refinement.proofs.ContextsPart.{is_shown, now-context, quiet-context, ran, take-context}
 use Rattle.um_refinement.proofs.Continued.{continues-thread}
 use Rattle.um_refinement.proofs.DuesFilled.{child-below, created, offers-plain, resumes-plain, still-steps, way-still}
 use Rattle.um_refinement.proofs.Erased.{around}
 use Rattle.um_refinement.proofs.IdleComplete.{one-holds}
-use Rattle.um_refinement.proofs.Leaves.{Beside, HasStep, Lawful, Leaves, beside, cleans, cuts, drops, event, expires, nothing, passes, recycles, resumes, ticks, times_out}
-use Rattle.um_refinement.proofs.Leaves as L
+use Rattle.um_refinement.proofs.Leaves.{Beside, HasStep, Lawful, Leaves, beside, cleans, drops, event, nothing, passes, recycles, resumes}
 use Rattle.um_refinement.proofs.ListGrowth.{is_end}
 use Rattle.um_refinement.proofs.ListRuns.{ends-rests, takes-none}
-use Rattle.um_refinement.proofs.Offered.{Shows, by-made, own-part, own-same, own-unless, runs-first, shown-offers, shows-runs}
+use Rattle.um_refinement.proofs.Offered.{Shows, by-made, own-unless, runs-first, shown-offers, shows-runs}
 use Rattle.um_refinement.proofs.Taking.{Idles as Takes, IsTaken, idles as idles-by, taken-parked, taken-uncut, takes, tends}
 use Rattle.um_refinement.proofs.Reachable.{sound-held}
 use Rattle.um_refinement.proofs.SchedulerSteps.{made-says}

@@ -1,8 +1,7 @@
 -- A mark in the hand: its step of time follows, or it makes none and is passed over. Behind it those are told whom the step wakes, and the mark is paid.
-use Rattle.std.proofs.Common.{◌≡◌, ◌⊎◌, inl, inr, ℕ, ◌+◌, ◌<◌, ◌≤◌, Bool, true, false, List, [], ◌∷◌, ◌++◌, map, Option, Some, None, refl, sym, ap, ◌∙◌, subst, arith, append-nil, append_assoc, eq-eqb}
-use Rattle.std.specs.Prelude.{◌==◌, ◌&&◌, ◌||◌, not, if◌then◌else◌, is_some}
-use Rattle.std.specs.List.{list_any}
-use Rattle.std.proofs.lemmas.Bool.{and_parts, false≢true, ltb-true, true≢false}
+use Rattle.std.proofs.Common.{◌≡◌, ◌⊎◌, inl, inr, ℕ, ◌<◌, ◌≤◌, true, false, List, [], ◌∷◌, ◌++◌, Option, Some, refl, sym, ap, ◌∙◌, subst, arith, append-nil, append_assoc, eq-eqb}
+use Rattle.std.specs.Prelude.{◌==◌, ◌&&◌, not, if◌then◌else◌, is_some}
+use Rattle.std.proofs.lemmas.Bool.{and_parts, false≢true, ltb-true}
 use Rattle.um_base.specs.declared.act.Act.{Act}
 use Rattle.um_base.specs.declared.ask.Told.{Told}
 use Rattle.um_base.specs.declared.limits.TheConstants.{THREADS}
@@ -15,20 +14,19 @@ use Rattle.um_invariants.specs.InOrder.{Makes, Point, time_cell, time_step}
 use Rattle.um_invariants.specs.Lines.{all_join}
 use Rattle.um_invariants.specs.Ready.{next_ready, readied, roused, running_or, with_readied}
 use Rattle.um_words.specs.declared.fine.FineAct.{FineAct}
-use Rattle.um_words.specs.declared.fine.Mark.{Mark}
 use Rattle.um_words.specs.declared.fine.Unseen.{Unseen}
 use Rattle.um_fine.specs.Answers.{act_in, is_void, ready_in, woken_in}
 use Rattle.um_fine.specs.Asks.{begins_cleaning, by_actor, marks_end}
 use Rattle.um_fine.specs.Clock.{Clock}
 use Rattle.um_fine.specs.Context.{Context}
-use Rattle.um_fine.specs.Follows.{goes_on_by, filled_up, told_marked, wakes, with_actor}
-use Rattle.um_fine.specs.Places.{Todo, Todos, is_paid}
+use Rattle.um_fine.specs.Follows.{goes_on_by, told_marked, wakes, with_actor}
+use Rattle.um_fine.specs.Places.{Todo, Todos}
 use Rattle.um_fine.specs.Processor.{Processor, actor_or}
 use Rattle.um_fine.specs.Scheduler.{Scheduler, behind, parked_at, waits}
 use Rattle.um_fine.specs.Sites.{same_site}
 use Rattle.um_fine.specs.Steps.{FineStep, Site}
-use Rattle.um_refinement.specs.Fine.{Fine, clock, joins, scheduler}
-use Rattle.um_refinement.specs.Lists.{counted, has_steps, is_wake, runs, times, wake_of}
+use Rattle.um_refinement.specs.Fine.{Fine, clock, scheduler}
+use Rattle.um_refinement.specs.Lists.{counted, has_steps, is_wake, times, wake_of}
 use Rattle.um_refinement.specs.Offers.{is_over}
 use Rattle.um_refinement.specs.Relation.{Rel}
 use Rattle.um_refinement.specs.Threads.{IsOf, occurs, runs_on}
@@ -48,14 +46,14 @@ use Rattle.um_refinement.proofs.ResumeSteps.{TellsWaiters, some-is}
 use Rattle.um_refinement.proofs.RunningPart.{todo-elsewhere}
 use Rattle.um_refinement.proofs.SchedulerSteps.{made-at, made-says, sched-else, sched-later, sched-said}
 use Rattle.um_refinement.proofs.StepReads.{is-placed}
-use Rattle.um_order.proofs.ArmingOrder.{Held, IsArmed, Passed, Plain, Steps, hand-steps, hand-void}
+use Rattle.um_order.proofs.ArmingOrder.{IsArmed, Passed, Plain, Steps, hand-steps, hand-void}
 use Rattle.um_order.proofs.EventLines.{below-woken, occurs-woken}
 use Rattle.um_order.proofs.Follow.{Followed, FollowsBy, cleans-none, here}
 use Rattle.um_order.proofs.ListShapes.{is_own}
 use Rattle.um_order.proofs.LookSteps.{filled-same}
 use Rattle.um_order.proofs.QuietSteps.{lies-parked, not-added, not-asleep, own-waits, waits-left}
 use Rattle.um_order.proofs.ReadyLines.{all-join-new}
-use Rattle.um_order.proofs.Standing.{AllStill, Holds, Idles, Pays, Stands, pays, woken_of}
+use Rattle.um_order.proofs.Standing.{Holds, Idles, Pays, pays, woken_of}
 use Rattle.um_order.proofs.TickOrder.{none-next}
 
 paying-some : (todo : Todos) → IsPaying todo → has_steps todo ≡ true

@@ -1,21 +1,17 @@
 -- Which steps of the machine leave an object initialised that wasn't, and that a clearing leaves it uninitialised.
 use Rattle.std.specs.List.{list_all}
 use Rattle.std.specs.Prelude.{◌==◌, slice_index_or, slice_set, ◌||◌, not, if◌then◌else◌}
-use Rattle.std.proofs.Common.{◌≡◌, ◌≢◌, ◌⊎◌, inl, inr, ℕ, zero, suc, ◌<◌, arith, length, Bool, true, false, List, [], ◌∷◌, Option, Some, None, refl, sym, ap, ◌∙◌, subst}
-use Rattle.std.proofs.lemmas.Bool.{and_parts, eqb-true, eqb-false, false≢true, true≢false}
-use Rattle.um_base.specs.declared.act.SetSaid.{SetSaid}
+use Rattle.std.proofs.Common.{◌≡◌, ◌⊎◌, inl, inr, ℕ, Bool, true, false, List, [], ◌∷◌, refl, sym, ap, ◌∙◌, subst}
+use Rattle.std.proofs.lemmas.Bool.{and_parts, false≢true}
 use Rattle.um_base.specs.declared.ask.Waiter.{Waiter}
 use Rattle.um_base.specs.declared.limits.TheConstants.{FUTEX_CELL, JOIN_CELL}
 use Rattle.um_base.specs.declared.names.Addr.{Addr}
-use Rattle.um_base.specs.declared.names.Kind.{Kind}
-use Rattle.um_machine.specs.Goes.{Next, went}
 use Rattle.um_machine.specs.Order.{Steps}
-use Rattle.um_machine.specs.State.{State, object_at, vacant, with_object, waiters_in, with_waiters}
+use Rattle.um_machine.specs.State.{State, object_at, vacant, with_object, with_waiters}
 use Rattle.um_machine.specs.Table as T
 use Rattle.um_machine.specs.Writes.{Effect, wrote, Edit, Effects, edited, effect, only, is_done}
 use Rattle.um_machine.specs.declared.object.Object.{Object}
 use Rattle.um_machine.specs.declared.pending.Pending.{Pending}
-use Rattle.um_machine.specs.declared.thread.Thread.{Thread}
 use Rattle.um_machine.proofs.AfterLemmas.{after-is, bytes-leave}
 use Rattle.um_machine.proofs.EffectLemmas.{effects_of, next_of, OfEach, all-wrote, woken-by, shared-went}
 use Rattle.um_invariants.proofs.Cores.{at_set}

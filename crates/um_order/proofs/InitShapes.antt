@@ -1,45 +1,29 @@
 -- By which steps of a call the object of a thread is initialised: a creation marks it, and then starts that thread, or clears the mark again. No other call
 -- marks an object of that kind.
 use Rattle.std.specs.Option.{option_and_then}
-use Rattle.std.specs.Prelude.{◌&&◌, ◌||◌, ◌==◌, nat_lt, if◌then◌else◌, unwrap_or, is_some, ℤ}
-use Rattle.std.proofs.Common.{◌≡◌, ◌⊎◌, inl, inr, ℕ, Bool, true, false, List, [], ◌∷◌, ◌++◌, Option, Some, None, refl, sym, ap, ◌∙◌, subst, ◌*◌, ◌+◌}
-use Rattle.std.proofs.lemmas.Bool.{false≢true, true≢false}
+use Rattle.std.specs.Prelude.{◌==◌, if◌then◌else◌, unwrap_or, ℤ}
+use Rattle.std.proofs.Common.{◌≡◌, ℕ, Bool, true, false, [], ◌∷◌, ◌++◌, Option, Some, None, refl, sym, ap, ◌∙◌}
+use Rattle.std.proofs.lemmas.Bool.{false≢true}
 use Rattle.um_base.specs.Places.{own_row, row_at, thread_of_addr, thread_of_row}
 use Rattle.um_base.specs.declared.act.Cause.{Cause}
-use Rattle.um_base.specs.declared.act.Event.{Event}
 use Rattle.um_base.specs.declared.ask.Ask.{Ask}
 use Rattle.um_base.specs.declared.image.Image.{Image}
 use Rattle.um_base.specs.declared.instr.Instr.{Instr}
 use Rattle.um_base.specs.declared.instr.Options.{Options}
-use Rattle.um_base.specs.declared.limits.TheConstants.{THREADS}
-use Rattle.um_base.specs.declared.names.Addr.{Addr}
 use Rattle.um_base.specs.declared.names.Errno.{Errno}
 use Rattle.um_base.specs.declared.names.Kind.{Kind}
 use Rattle.um_base.specs.declared.names.Mode.{Mode}
 use Rattle.um_base.specs.declared.names.Reply.{Reply}
-use Rattle.um_base.specs.declared.names.Row.{Row}
 use Rattle.um_base.specs.declared.names.ThreadIx.{ThreadIx}
 use Rattle.um_base.specs.declared.names.Timeout.{Timeout}
-use Rattle.um_machine.specs.Goes.{Next, Way, Change, told_way, steps_by, gone, changed, at_steps, checked_way}
-use Rattle.um_machine.specs.Objects.{has_kind, verdict}
-use Rattle.um_machine.specs.Order.{Steps, answer_error, answer_zero, answer_void, arms, buffered, creates, privileged, aborts, steps_of, end_steps, fatal_steps, to_addr, to_thread, work, to_row, new_mode}
-use Rattle.um_machine.specs.Run.{opening, Offers, goes, skips_inherit, skips_drops, begins, exits, leaves, stops, tends, is_tending, Step}
-use Rattle.um_machine.specs.State.{State, thread_at, object_at, instruction_at, value_of}
-use Rattle.um_machine.specs.Table as T
-use Rattle.um_machine.specs.Writes.{cut}
+use Rattle.um_machine.specs.Objects.{has_kind}
+use Rattle.um_machine.specs.Order.{Steps, answer_error, answer_zero, answer_void, arms, buffered, creates, privileged, aborts, steps_of, to_addr, to_thread, work, to_row, new_mode}
+use Rattle.um_machine.specs.State.{value_of}
 use Rattle.um_machine.specs.declared.pending.Pending.{Pending}
-use Rattle.um_machine.specs.declared.pending.Refusal.{Refusal}
 use Rattle.um_machine.specs.declared.thread.Thread.{Thread}
-use Rattle.um_machine.proofs.EffectLemmas.{next_of, each-after, Ignores, all_other}
-use Rattle.um_machine.proofs.WayLemmas.{HoldsOfWays, way-left}
-use Rattle.um_invariants.proofs.Cores.{core_of, kind_is}
 use Rattle.um_invariants.proofs.Guards.{row_kind, IsSited}
-use Rattle.um_invariants.proofs.Turns.{IsKnown, row_has, passed}
 use Rattle.um_fine.specs.Addresses.{row_named}
 use Rattle.um_refinement.specs.Stops.{HasOwn}
-use Rattle.um_refinement.proofs.FirstThreads.{new-thread}
-use Rattle.um_refinement.proofs.StepsLeft.{fatal-left}
-use Rattle.um_order.proofs.OneAct.{is_asking}
 
 -- a thread with an object of its own, which is of that kind
 abbrev pub IsThread : Image → ℕ → Type 0

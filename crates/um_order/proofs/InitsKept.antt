@@ -1,24 +1,21 @@
 -- Each step of the machine keeps what calls mark.
 use Rattle.std.specs.Prelude.{nat_lt, if◌then◌else◌}
-use Rattle.std.proofs.Common.{◌≡◌, ◌⊎◌, inl, inr, ℕ, ◌+◌, Bool, true, false, List, [], ◌∷◌, Option, Some, None, refl, sym, ap, ◌∙◌, subst}
-use Rattle.std.proofs.lemmas.Bool.{false≢true, true≢false}
+use Rattle.std.proofs.Common.{◌≡◌, ℕ, ◌+◌, Bool, true, false, [], ◌∷◌, Option, Some, None, refl, sym, ap, ◌∙◌, subst}
+use Rattle.std.proofs.lemmas.Bool.{false≢true}
 use Rattle.um_base.specs.Places.{row_at}
 use Rattle.um_base.specs.declared.image.Image.{Image}
-use Rattle.um_base.specs.declared.instr.Instr.{Instr}
 use Rattle.um_base.specs.declared.limits.TheConstants.{THREADS}
 use Rattle.um_base.specs.declared.names.Addr.{Addr}
 use Rattle.um_base.specs.declared.names.Errno.{Errno}
 use Rattle.um_base.specs.declared.names.Kind.{Kind}
 use Rattle.um_base.specs.declared.names.Mode.{Mode}
-use Rattle.um_base.specs.declared.names.ThreadIx.{ThreadIx}
 use Rattle.um_base.specs.declared.names.Want.{Want}
 use Rattle.um_machine.specs.Goes.{Next, Change, told_way, steps_by, checked_way, gone, changed, at_steps}
 use Rattle.um_machine.specs.Objects.{has_kind, verdict}
 use Rattle.um_machine.specs.Order.{Steps, steps_of}
-use Rattle.um_machine.specs.Run.{Offers, goes, skips_inherit, skips_drops, begins, exits, leaves, stops, tends, MayChoose, is_tending}
-use Rattle.um_machine.specs.State.{State, thread_at, object_at, is_living}
+use Rattle.um_machine.specs.Run.{Offers, goes, skips_inherit, skips_drops, begins, exits, leaves, stops, tends}
+use Rattle.um_machine.specs.State.{State, thread_at, object_at}
 use Rattle.um_machine.specs.Table as T
-use Rattle.um_machine.specs.Writes.{cut}
 use Rattle.um_machine.specs.declared.pending.Pending.{Pending}
 use Rattle.um_machine.specs.declared.pending.Refusal.{Refusal}
 use Rattle.um_machine.specs.declared.thread.Thread.{Thread}
@@ -26,7 +23,6 @@ use Rattle.um_machine.proofs.EffectLemmas.{next_of, each-after, Ignores, all_oth
 use Rattle.um_machine.proofs.WayLemmas.{HoldsOfWays, way-left}
 use Rattle.um_invariants.proofs.Cores.{core_of, kind_is}
 use Rattle.um_invariants.proofs.Guards.{row_kind, IsSited}
-use Rattle.um_invariants.proofs.ThreadWords.{is_beside}
 use Rattle.um_invariants.proofs.Turns.{IsKnown, row_has, passed}
 use Rattle.um_refinement.proofs.StepsLeft.{fatal-left}
 use Rattle.um_order.proofs.InitShapes.{Inits, inits-steps}

@@ -2,20 +2,17 @@
 -- within the call that starts it, or clears the mark, and no other one is within a call then.
 use Rattle.std.specs.List.{list_any}
 use Rattle.std.specs.Prelude.{◌==◌, ◌&&◌, ◌||◌, not, if◌then◌else◌, is_some, nat_lt, unwrap_or, slice_index_or, ℤ}
-use Rattle.std.proofs.Common.{◌+◌, ◌-◌, ◌≡◌, ◌≢◌, ◌⊎◌, inl, inr, ℕ, zero, suc, ◌<◌, ◌≤◌, arith, length, Bool, true, false, List, [], ◌∷◌, Option, Some, None, refl, sym, ap, ◌∙◌, subst}
+use Rattle.std.proofs.Common.{◌+◌, ◌-◌, ◌≡◌, ◌⊎◌, inl, inr, ℕ, zero, suc, ◌<◌, ◌≤◌, arith, length, Bool, true, false, List, [], ◌∷◌, Option, Some, None, refl, sym, ap, ◌∙◌, subst}
 use Rattle.std.proofs.lemmas.Bool.{not-true, and_parts, false≢true, true≢false, eqb-true, eqb-false, ltb-true}
 use Rattle.std.proofs.lemmas.List.{get_or-set_same}
 use Rattle.um_base.specs.Lawful.{IsLawful}
 use Rattle.um_base.specs.Places.{own_row, setup_at, setup_thread, thread_of_row}
-use Rattle.um_base.specs.declared.act.Act.{Act}
 use Rattle.um_base.specs.declared.act.Answer.{Answer}
-use Rattle.um_base.specs.declared.act.Event.{Event}
 use Rattle.um_base.specs.declared.ask.Waiter.{Waiter}
 use Rattle.um_base.specs.declared.image.Image.{Image}
 use Rattle.um_base.specs.declared.limits.TheConstants.{THREADS, STATIC_THREADS, STATIC_ROWS, JOIN_CELL}
 use Rattle.um_base.specs.declared.names.Addr.{Addr}
 use Rattle.um_base.specs.declared.names.Errno.{Errno}
-use Rattle.um_base.specs.declared.names.Kind.{Kind}
 use Rattle.um_base.specs.declared.names.Mode.{Mode}
 use Rattle.um_base.specs.declared.names.Reply.{Reply}
 use Rattle.um_base.specs.declared.names.Row.{Row}
@@ -23,8 +20,7 @@ use Rattle.um_base.specs.declared.names.ThreadIx.{ThreadIx}
 use Rattle.um_base.specs.declared.names.Timeout.{Timeout}
 use Rattle.um_machine.specs.Joins as Plain
 use Rattle.um_machine.specs.Order.{Steps}
-use Rattle.um_machine.specs.Run.{MayChoose, Step, Offers, goes, skips_inherit, skips_drops, begins, exits, stops, tends, opening, leaves, is_tending}
-use Rattle.um_machine.specs.Services.{is_empty}
+use Rattle.um_machine.specs.Run.{MayChoose, Offers, goes, skips_inherit, skips_drops, begins, exits, stops, tends, opening, leaves, is_tending}
 use Rattle.um_machine.specs.State.{State, nobody, thread_at, object_at, is_living, is_to_resume, is_waiting}
 use Rattle.um_machine.specs.Table as T
 use Rattle.um_machine.specs.Writes.{wrote}
@@ -32,16 +28,14 @@ use Rattle.um_machine.specs.declared.pending.Pending.{Pending}
 use Rattle.um_machine.specs.declared.thread.Life.{Life}
 use Rattle.um_machine.specs.declared.thread.Thread.{Thread}
 use Rattle.um_machine.proofs.AfterLemmas.{after-is}
-use Rattle.um_machine.proofs.EffectLemmas.{effects_of, next_of}
+use Rattle.um_machine.proofs.EffectLemmas.{effects_of}
 use Rattle.um_invariants.specs.NextSteps.{IsLeast, MayTake}
-use Rattle.um_invariants.proofs.Cores.{core_of, at_set}
-use Rattle.um_invariants.proofs.Guards.{IsSited, row_kind}
+use Rattle.um_invariants.proofs.Cores.{at_set}
+use Rattle.um_invariants.proofs.Guards.{IsSited}
 use Rattle.um_invariants.proofs.SitedImages.{index_small}
-use Rattle.um_invariants.proofs.Turns.{IsKnown}
 use Rattle.um_words.specs.declared.fine.FineAct.{FineAct}
-use Rattle.um_words.specs.declared.fine.Unseen.{Unseen}
 use Rattle.um_fine.specs.Addresses.{row_named}
-use Rattle.um_fine.specs.Answers.{act_in, answer_in}
+use Rattle.um_fine.specs.Answers.{answer_in}
 use Rattle.um_fine.specs.Context.{Context}
 use Rattle.um_fine.specs.Joins.{deadlocks, is_shut, open_says}
 use Rattle.um_fine.specs.Opening.{indexed}

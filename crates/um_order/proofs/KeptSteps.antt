@@ -1,49 +1,43 @@
 -- What goes along one processor's steps beside the relation and the point's order: what is left of calls, that who waits stands somewhere, whom the point is to
 -- cut, who made the last event, that no mark is behind now, that a word is read again only behind a wait, and what calls mark. It is so at the opening, and each
 -- step keeps it.
-use Rattle.std.specs.Prelude.{slice_index_or, is_some, not, ◌&&◌, if◌then◌else◌, ◌==◌, ◌||◌}
-use Rattle.std.proofs.Common.{◌≡◌, ◌⊎◌, inl, inr, ℕ, ◌+◌, ◌<◌, arith, length, Bool, true, false, [], ◌∷◌, Some, None, refl, sym, ap, ◌∙◌, subst, ne_eqb, zero, suc}
-use Rattle.std.proofs.lemmas.Bool.{and_parts, false≢true, true≢false, not-true, lt-ltb}
+use Rattle.std.specs.Prelude.{slice_index_or, is_some, ◌&&◌, if◌then◌else◌, ◌==◌, ◌||◌}
+use Rattle.std.proofs.Common.{◌≡◌, inl, ℕ, ◌+◌, ◌<◌, arith, length, Bool, true, false, [], ◌∷◌, refl, sym, ap, ◌∙◌, subst, ne_eqb, zero, suc}
+use Rattle.std.proofs.lemmas.Bool.{and_parts, false≢true}
 use Rattle.um_base.specs.Places.{own_row}
 use Rattle.um_base.specs.declared.act.Event.{Event}
 use Rattle.um_base.specs.declared.ask.Ask.{Ask}
 use Rattle.um_base.specs.declared.image.Image.{Image}
-use Rattle.um_base.specs.declared.limits.TheConstants.{ROWS, THREADS, FUTEX_CELL, JOIN_CELL}
+use Rattle.um_base.specs.declared.limits.TheConstants.{ROWS, FUTEX_CELL, JOIN_CELL}
 use Rattle.um_base.specs.declared.names.Addr.{Addr}
-use Rattle.um_base.specs.declared.names.ThreadIx.{ThreadIx}
 use Rattle.um_machine.specs.Objects as Plain
 use Rattle.um_machine.specs.Order.{Steps}
-use Rattle.um_machine.specs.Run.{opening, Step, MayChoose, stands_in, Offers}
+use Rattle.um_machine.specs.Run.{opening, Step, stands_in, Offers}
 use Rattle.um_machine.specs.State.{State, object_at, thread_at, waiters_in, is_to_resume, is_waiting, nobody}
 use Rattle.um_machine.specs.Table as T
 use Rattle.um_machine.specs.declared.object.Status.{Status}
 use Rattle.um_machine.specs.declared.pending.Pending.{Pending}
 use Rattle.um_machine.specs.declared.thread.Thread.{Thread}
-use Rattle.um_invariants.specs.Described.{IsDescribed}
-use Rattle.um_invariants.specs.InOrder.{Follows, Point, opening_point}
-use Rattle.um_invariants.proofs.Cores.{core_of, call_is, status_is, Call}
+use Rattle.um_invariants.specs.InOrder.{Point, opening_point}
+use Rattle.um_invariants.proofs.Cores.{call_is, status_is, Call}
 use Rattle.um_invariants.proofs.Facts.{is_standing}
 use Rattle.um_invariants.proofs.Guards.{IsSited}
-use Rattle.um_invariants.proofs.Turns.{IsKnown}
 use Rattle.um_words.specs.declared.fine.FineAct.{FineAct}
-use Rattle.um_words.specs.declared.fine.More.{More}
-use Rattle.um_fine.specs.Clock.{Marked}
 use Rattle.um_fine.specs.Processor.{Processor, idle}
 use Rattle.um_fine.specs.Steps.{FineStep}
 use Rattle.um_refinement.specs.Choice.{IsChosen}
-use Rattle.um_refinement.specs.Fine.{Fine, scheduler, clock}
+use Rattle.um_refinement.specs.Fine.{Fine, clock}
 use Rattle.um_refinement.specs.Lists.{has_steps}
 use Rattle.um_refinement.specs.Relation.{Rel}
 use Rattle.um_refinement.proofs.CallsProper.{AreProper}
-use Rattle.um_refinement.proofs.Erased.{IsReachable, GoesBy, around}
+use Rattle.um_refinement.proofs.Erased.{GoesBy, around}
 use Rattle.um_refinement.proofs.First.{first}
 use Rattle.um_refinement.proofs.FirstThreads.{new-thread, opening-is}
 use Rattle.um_refinement.proofs.IdleComplete.{one-holds}
 use Rattle.um_refinement.proofs.Leaves.{Lawful, Leaves}
 use Rattle.um_refinement.proofs.Reachable.{IsSound}
-use Rattle.um_refinement.proofs.SuitsKnown.{works-known, waits-known, proper-known}
 use Rattle.um_refinement.proofs.WaitersFound.{WaitersWait}
-use Rattle.um_refinement.proofs.WaitersKnown.{holds-known, WaitersHold}
+use Rattle.um_refinement.proofs.WaitersKnown.{WaitersHold}
 use Rattle.um_order.proofs.ArmingOrder.{AreSettled}
 use Rattle.um_order.proofs.CallsKept.{AreCalls, AtMostOne, calls-after}
 use Rattle.um_order.proofs.CutNow.{CutsNext, cuts-follow}

@@ -1,31 +1,27 @@
 -- Behind a step that aborts a thread, or goes on with one, its own thread goes on; and that thread is not doomed: nobody is within a call once one is.
-use Rattle.std.specs.Prelude.{◌==◌, is_some, unwrap_or}
-use Rattle.std.proofs.Common.{◌≡◌, ◌≢◌, ◌⊎◌, inl, inr, ℕ, ◌<◌, Bool, true, false, [], ◌∷◌, Option, Some, None, refl, sym, ap, ◌∙◌, subst}
+use Rattle.std.specs.Prelude.{◌==◌, is_some}
+use Rattle.std.proofs.Common.{◌≡◌, ◌≢◌, ◌⊎◌, inl, inr, ℕ, ◌<◌, Bool, true, false, [], ◌∷◌, Some, refl, sym, ap, ◌∙◌, subst}
 use Rattle.std.proofs.lemmas.Bool.{eqb-false, eqb-true, false≢true, true≢false}
 use Rattle.um_base.specs.declared.act.Act.{Act}
-use Rattle.um_base.specs.declared.image.Image.{Image}
 use Rattle.um_base.specs.declared.limits.TheConstants.{THREADS}
-use Rattle.um_base.specs.declared.names.ThreadIx.{ThreadIx}
 use Rattle.um_machine.specs.Order.{Steps}
 use Rattle.um_machine.specs.Run.{Offers}
 use Rattle.um_machine.specs.Services.{is_empty}
 use Rattle.um_machine.specs.State.{State, thread_at}
 use Rattle.um_machine.specs.Table as T
 use Rattle.um_machine.specs.declared.pending.Pending.{Pending}
-use Rattle.um_machine.specs.declared.thread.Thread.{Thread}
 use Rattle.um_invariants.proofs.ThreadWords.{is_beside}
 use Rattle.um_fine.specs.Answers.{act_in}
-use Rattle.um_fine.specs.Context.{Context}
 use Rattle.um_fine.specs.Continues.{continues}
 use Rattle.um_fine.specs.Places.{Todos}
-use Rattle.um_fine.specs.Steps.{Exchange, FineStep}
+use Rattle.um_fine.specs.Steps.{FineStep}
 use Rattle.um_refinement.specs.Fine.{Fine}
 use Rattle.um_refinement.proofs.CallsProper.{AreProper, offered-proper}
 use Rattle.um_refinement.proofs.Leaves.{Lawful}
 use Rattle.um_refinement.proofs.Offered.{Shows, shown-offers, own-part}
 use Rattle.um_order.proofs.CallsKept.{AllDoomed, AreCalls, AtMostOne, IsBack, IsDooming, back-settled}
 use Rattle.um_order.proofs.CallsMoved.{IsOffered, asks, beside, inner, is_stirring, offered-is, resumes, rises}
-use Rattle.um_order.proofs.OneAct.{IsCall, IsSettled, Quiet, is_asking, is_inner}
+use Rattle.um_order.proofs.OneAct.{IsCall, IsSettled, Quiet, is_inner}
 use Rattle.um_order.proofs.OneStep.{stirred}
 use Rattle.um_order.proofs.ShowSteps.{stirs}
 use Rattle.um_order.proofs.Standing.{goes}

@@ -2,18 +2,16 @@
 -- abort.
 use Rattle.std.specs.List.{list_all, list_any}
 use Rattle.std.specs.Prelude.{◌==◌, ◌&&◌, ◌||◌, not, if◌then◌else◌, is_some, nat_le, nat_lt, slice_index_or}
-use Rattle.std.proofs.Common.{◌≡◌, ◌≢◌, ◌⊎◌, inl, inr, ℕ, zero, suc, ◌+◌, ◌<◌, ◌≤◌, arith, length, Bool, true, false, List, [], ◌∷◌, Option, Some, None, refl, sym, ap, ◌∙◌, subst, eq-eqb, ne_eqb}
-use Rattle.std.proofs.lemmas.Bool.{and_parts, and_from, eqb-true, eqb-false, false≢true, true≢false, leb-true, le-leb, ltb-true, not-true, ltb-false}
+use Rattle.std.proofs.Common.{◌≡◌, ℕ, zero, suc, ◌+◌, ◌<◌, ◌≤◌, arith, length, Bool, true, false, List, [], ◌∷◌, Option, Some, None, refl, sym, ap, ◌∙◌, subst, eq-eqb, ne_eqb}
+use Rattle.std.proofs.lemmas.Bool.{and_parts, and_from, eqb-true, false≢true, true≢false, leb-true, le-leb, ltb-true, not-true, ltb-false}
 use Rattle.um_base.specs.declared.act.Act.{Act}
-use Rattle.um_base.specs.declared.ask.Waiter.{Waiter}
 use Rattle.um_base.specs.declared.limits.TheConstants.{ROWS, THREADS, FUTEX_CELL, JOIN_CELL}
 use Rattle.um_base.specs.declared.names.Row.{Row}
 use Rattle.um_base.specs.declared.names.ThreadIx.{ThreadIx}
 use Rattle.um_machine.specs.Order.{Steps, to_thread, to_row}
 use Rattle.um_machine.specs.Run.{stands_in}
 use Rattle.um_machine.specs.Services.{is_empty}
-use Rattle.um_machine.specs.State.{State, nobody, vacant, object_at, thread_at, waiters_in, is_waiting, is_to_resume}
-use Rattle.um_machine.specs.Table as T
+use Rattle.um_machine.specs.State.{State, vacant, object_at, thread_at, waiters_in, is_waiting, is_to_resume}
 use Rattle.um_machine.specs.Time.{has_run_out}
 use Rattle.um_machine.specs.declared.contents.Contents.{Contents}
 use Rattle.um_machine.specs.declared.object.Object.{Object}
@@ -29,22 +27,20 @@ use Rattle.um_words.specs.declared.thread_word.ThreadWord.{ThreadWord}
 use Rattle.um_fine.specs.Answers.{thread_in, is_void}
 use Rattle.um_fine.specs.Asks.{by_actor, by_me, marks_end}
 use Rattle.um_fine.specs.Clock.{Marked}
-use Rattle.um_fine.specs.Context.{Context}
 use Rattle.um_fine.specs.Objects.{object_finds}
 use Rattle.um_fine.specs.Places.{Todo, Todos}
-use Rattle.um_fine.specs.Processor.{Processor}
 use Rattle.um_fine.specs.Scheduler.{waits}
-use Rattle.um_fine.specs.Seeking.{deadline_of, finds, is_number}
-use Rattle.um_fine.specs.Sites.{SiteState, site_answers, site_numbered}
+use Rattle.um_fine.specs.Seeking.{deadline_of, is_number}
+use Rattle.um_fine.specs.Sites.{site_answers, site_numbered}
 use Rattle.um_fine.specs.Steps.{Exchange, FineStep, Site}
-use Rattle.um_refinement.specs.Fine.{Fine, scheduler, one_if, over_processors, total, object, clock, joins, word}
+use Rattle.um_refinement.specs.Fine.{Fine, scheduler, over_processors, object, clock, word}
 use Rattle.um_refinement.specs.Lists.{runs, runs_thread, counted, is_wipe, is_recycle}
 use Rattle.um_refinement.specs.Objects.{recyclers, wipers}
 use Rattle.um_refinement.specs.Offers.{is_over}
 use Rattle.um_refinement.specs.Relation.{Rel}
 use Rattle.um_refinement.specs.Stops.{IsCutComing, cell_site, is_look, is_reread, noted_at, notes_in}
 use Rattle.um_refinement.specs.Stops as C
-use Rattle.um_refinement.specs.Threads.{as_cut, IsRun}
+use Rattle.um_refinement.specs.Threads.{IsRun}
 use Rattle.um_refinement.specs.Timing.{IsToCome, handles, is_left}
 use Rattle.um_refinement.specs.Timing as M
 use Rattle.um_refinement.proofs.CellSites.{site-of-cell, waiting_cell}

@@ -1,16 +1,12 @@
 -- The thread by which the processor makes the events of time made the last event, unless no deadline was armed yet.
 use Rattle.std.specs.Prelude.{if◌then◌else◌}
-use Rattle.std.proofs.Common.{◌≡◌, ◌⊎◌, inl, inr, ℕ, Bool, true, false, List, [], ◌∷◌, Option, Some, None, refl, sym, ap, ◌∙◌, subst}
-use Rattle.um_base.specs.declared.act.Act.{Act}
+use Rattle.std.proofs.Common.{◌≡◌, ◌⊎◌, inl, inr, ℕ, Bool, true, false, List, [], ◌∷◌, Option, Some, None, refl, sym, ap, ◌∙◌}
 use Rattle.um_base.specs.declared.act.Event.{Event}
 use Rattle.um_base.specs.declared.image.Image.{Image}
-use Rattle.um_base.specs.declared.names.ThreadIx.{ThreadIx}
 use Rattle.um_machine.specs.Order.{to_thread}
 use Rattle.um_machine.specs.Services.{is_empty}
-use Rattle.um_machine.specs.State.{State}
-use Rattle.um_invariants.specs.InOrder.{CleansUp, CutsShort, Follows, GoesOn, PassesTime, Point}
+use Rattle.um_invariants.specs.InOrder.{Follows, Point}
 use Rattle.um_words.specs.declared.fine.FineAct.{FineAct}
-use Rattle.um_words.specs.declared.fine.More.{More}
 use Rattle.um_words.specs.declared.fine.Unseen.{Unseen}
 use Rattle.um_fine.specs.Answers.{is_word_read, thread_in, domain_in, due_in, mark_in}
 use Rattle.um_fine.specs.Asks.{begins_cleaning}

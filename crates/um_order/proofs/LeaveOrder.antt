@@ -1,16 +1,13 @@
 -- The end of a thread for which others wait: its event follows, right before the thread clears its own object.
-use Rattle.std.proofs.Common.{◌≡◌, ◌⊎◌, inl, inr, ℕ, suc, ◌+◌, ◌<◌, Bool, true, false, List, [], ◌∷◌, ◌++◌, map, length, Option, Some, None, refl, sym, ap, ◌∙◌, subst, arith, append-nil, eqb-true}
+use Rattle.std.proofs.Common.{◌≡◌, ◌⊎◌, inl, inr, ℕ, suc, ◌+◌, ◌<◌, Bool, true, false, List, [], ◌∷◌, ◌++◌, map, length, Some, refl, sym, ap, ◌∙◌, subst, arith, append-nil}
 use Rattle.std.specs.Prelude.{◌==◌, ◌&&◌, not, IsTrue, filter, if◌then◌else◌, is_some, slice_index_or}
 use Rattle.std.specs.List.{list_all, list_any}
-use Rattle.std.proofs.lemmas.Bool.{and_from, and_parts, false≢true, not_from_false, true≢false}
+use Rattle.std.proofs.lemmas.Bool.{and_from, and_parts, false≢true, true≢false}
 use Rattle.um_base.specs.declared.act.Act.{Act}
-use Rattle.um_base.specs.declared.ask.Told.{Told}
 use Rattle.um_base.specs.declared.ask.Waiter.{Waiter}
-use Rattle.um_base.specs.declared.image.Image.{Image}
 use Rattle.um_base.specs.declared.limits.TheConstants.{ROWS}
 use Rattle.um_base.specs.declared.names.Addr.{Addr}
 use Rattle.um_base.specs.declared.names.Reply.{Reply}
-use Rattle.um_base.specs.declared.names.ThreadIx.{ThreadIx}
 use Rattle.um_base.specs.Places.{own_row}
 use Rattle.um_machine.specs.declared.pending.Pending.{Pending}
 use Rattle.um_machine.specs.declared.thread.Thread.{Thread}
@@ -21,18 +18,16 @@ use Rattle.um_machine.specs.Joins as M
 use Rattle.um_machine.specs.Services.{in_order, is_empty, told}
 use Rattle.um_machine.specs.State.{State, thread_at}
 use Rattle.um_machine.specs.Table as T
-use Rattle.um_invariants.specs.InOrder.{Point, waiting}
-use Rattle.um_invariants.specs.NextSteps.{IsNext, IsNextStep}
+use Rattle.um_invariants.specs.InOrder.{Point}
+use Rattle.um_invariants.specs.NextSteps.{IsNextStep}
 use Rattle.um_invariants.specs.Ready.{behind_next, next_ready, running_or}
-use Rattle.um_words.specs.declared.fine.FineAct.{FineAct}
 use Rattle.um_words.specs.declared.fine.More.{More}
 use Rattle.um_fine.specs.Addresses.{row_named}
 use Rattle.um_fine.specs.Answers.{act_in, woken_in}
-use Rattle.um_fine.specs.Asks.{begins_cleaning, by_me}
+use Rattle.um_fine.specs.Asks.{by_me}
 use Rattle.um_fine.specs.Clock.{Clock}
 use Rattle.um_fine.specs.Context.{Context}
-use Rattle.um_fine.specs.Follows.{goes_on_by, told_all, wakes}
-use Rattle.um_fine.specs.Joins.{all_joined}
+use Rattle.um_fine.specs.Follows.{told_all}
 use Rattle.um_fine.specs.Places.{Todo, Todos}
 use Rattle.um_fine.specs.Processor.{Processor}
 use Rattle.um_fine.specs.Scheduler.{waits}
@@ -40,9 +35,8 @@ use Rattle.um_fine.specs.Sites.{same_site}
 use Rattle.um_fine.specs.Steps.{FineStep, Site}
 use Rattle.um_refinement.specs.Cleaning.{AreBlocks}
 use Rattle.um_refinement.specs.Dues.{is_visiting}
-use Rattle.um_refinement.specs.Fine.{Fine, clock, joins, scheduler}
-use Rattle.um_refinement.specs.Frames.{Behind}
-use Rattle.um_refinement.specs.Lists.{adders, has_steps, runs, visited}
+use Rattle.um_refinement.specs.Fine.{Fine, clock, scheduler}
+use Rattle.um_refinement.specs.Lists.{adders, runs, visited}
 use Rattle.um_refinement.specs.Offers as O
 use Rattle.um_refinement.specs.Offers.{Fits, IsOffered, is_over}
 use Rattle.um_refinement.specs.Relation.{Rel}
@@ -65,7 +59,7 @@ use Rattle.um_refinement.proofs.Offered.{not-cut, own-unless, runs-first}
 use Rattle.um_refinement.proofs.ResumeSteps.{TellsWaiters}
 use Rattle.um_refinement.proofs.RunningPart.{todo-elsewhere}
 use Rattle.um_refinement.proofs.SchedulerSteps.{made-at, sched-else}
-use Rattle.um_refinement.proofs.StepReads.{is-behind, reads-last}
+use Rattle.um_refinement.proofs.StepReads.{is-behind}
 use Rattle.um_refinement.proofs.StepsLeft.{offered-on}
 use Rattle.um_order.proofs.ArmingOrder.{Plain}
 use Rattle.um_order.proofs.Follow.{Followed, follow, here}
@@ -73,7 +67,7 @@ use Rattle.um_order.proofs.ListCalm.{next-calm, next-cutters}
 use Rattle.um_order.proofs.ListShapes.{is_own, next-ends}
 use Rattle.um_order.proofs.NextSteps.{left-behind, left-is}
 use Rattle.um_order.proofs.ShowSteps.{goes-offered, goes-some, told-numbers, wakes-so}
-use Rattle.um_order.proofs.Standing.{Begun, ComeAlone, IsFull, back, comers, cutters, goes, inside_of, is_calm, is_show, woken_of}
+use Rattle.um_order.proofs.Standing.{Begun, IsFull, back, comers, cutters, goes, inside_of, is_calm, is_show, woken_of}
 
 pub goes-awake : (steps : Steps) → goes steps ≡ true → waits steps ≡ false
 goes-awake [] h = refl

@@ -1,19 +1,19 @@
 -- The processor's list after a step but an event, a look, a rouse and the end of a turn: no look and no rouse comes on it, and nobody gets ready by it who
 -- was cut.
 use Rattle.std.proofs.Common.{◌≡◌, ℕ, Bool, true, false, List, [], ◌∷◌, ◌++◌, Option, Some, None, refl, sym, ap, ◌∙◌, subst, if◌then◌else◌}
-use Rattle.std.specs.Prelude.{◌+◌, ◌&&◌, nat_lt}
+use Rattle.std.specs.Prelude.{◌+◌, nat_lt}
 use Rattle.std.specs.List.{list_all}
-use Rattle.std.proofs.lemmas.Bool.{and_from, and_parts, false≢true, true≢false}
+use Rattle.std.proofs.lemmas.Bool.{and_from, and_parts, false≢true}
 use Rattle.um_base.specs.declared.image.Image.{Image}
 use Rattle.um_base.specs.declared.limits.TheConstants.{ROWS}
-use Rattle.um_base.specs.Places.{own_row, thread_of_row}
+use Rattle.um_base.specs.Places.{thread_of_row}
 use Rattle.um_machine.specs.declared.pending.Pending.{Pending}
 use Rattle.um_machine.specs.Order.{Steps}
 use Rattle.um_fine.specs.Answers.{is_visit, thread_in}
 use Rattle.um_fine.specs.Asks.{begins_cleaning}
 use Rattle.um_fine.specs.Context.{Context}
 use Rattle.um_fine.specs.Follows.{dropped_at, filled_up, goes_on_by, p_next, row_number, with_cleaned}
-use Rattle.um_fine.specs.Places.{Todo, Todos, but, cleaning_of, drops, end_of_turn, fine_steps, is_cleaning_todo, next_steps, passes}
+use Rattle.um_fine.specs.Places.{Todo, Todos, cleaning_of, end_of_turn, fine_steps, is_cleaning_todo, next_steps}
 use Rattle.um_fine.specs.Processor.{Processor}
 use Rattle.um_fine.specs.Steps.{FineStep}
 use Rattle.um_refinement.specs.Lists.{names_row}

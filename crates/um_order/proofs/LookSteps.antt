@@ -1,19 +1,18 @@
 -- A processor that has stopped another thread, or has gone on with one, looks for it: one that sleeps is added, and one that waits is cut. A cut is an event.
-use Rattle.std.proofs.Common.{◌≡◌, ◌⊎◌, inl, inr, ℕ, zero, suc, ◌+◌, ◌<◌, Bool, true, false, List, [], ◌∷◌, ◌++◌, map, length, Option, Some, None, refl, sym, ap, ◌∙◌, subst, arith, append-nil}
-use Rattle.std.specs.Prelude.{◌==◌, ◌&&◌, ◌||◌, not, if◌then◌else◌, is_some}
+use Rattle.std.proofs.Common.{◌≡◌, inl, inr, ℕ, zero, suc, ◌<◌, Bool, true, false, List, [], ◌∷◌, ◌++◌, map, Option, Some, None, refl, sym, ap, ◌∙◌, subst, arith, append-nil}
+use Rattle.std.specs.Prelude.{◌&&◌, ◌||◌, not, if◌then◌else◌, is_some}
 use Rattle.std.specs.List.{list_all, list_any}
 use Rattle.std.proofs.lemmas.Bool.{and_parts, false≢true, not-true, true≢false}
 use Rattle.um_base.specs.declared.act.Act.{Act}
 use Rattle.um_base.specs.declared.ask.Told.{Told}
 use Rattle.um_base.specs.declared.image.Image.{Image}
 use Rattle.um_base.specs.declared.limits.TheConstants.{THREADS}
-use Rattle.um_base.specs.declared.names.ThreadIx.{ThreadIx}
 use Rattle.um_machine.specs.declared.pending.Pending.{Pending}
 use Rattle.um_machine.specs.declared.thread.Thread.{Thread}
 use Rattle.um_machine.specs.Order.{Steps, to_thread}
 use Rattle.um_machine.specs.Run.{MayChoose, tends}
 use Rattle.um_machine.specs.Services.{is_empty}
-use Rattle.um_machine.specs.State.{State, is_started, is_to_resume, is_waiting, thread_at}
+use Rattle.um_machine.specs.State.{State, is_to_resume, is_waiting, thread_at}
 use Rattle.um_machine.specs.Table as T
 use Rattle.um_invariants.specs.InOrder.{Point}
 use Rattle.um_invariants.specs.Ready.{with_readied}
@@ -22,7 +21,7 @@ use Rattle.um_words.specs.declared.fine.FineAct.{FineAct}
 use Rattle.um_words.specs.declared.fine.Unseen.{Unseen}
 use Rattle.um_fine.specs.Answers.{context_in, is_void}
 use Rattle.um_fine.specs.Asks.{begins_cleaning, by_me, or_void, roused_by}
-use Rattle.um_fine.specs.Clock.{Clock, Marked}
+use Rattle.um_fine.specs.Clock.{Clock}
 use Rattle.um_fine.specs.Context.{Context}
 use Rattle.um_fine.specs.Follows.{filled_up, goes_on_by, with_actor}
 use Rattle.um_fine.specs.Joins.{asleep_at, join_moves, join_says, roused, sleeps}
@@ -34,15 +33,13 @@ use Rattle.um_fine.specs.Sites.{SiteState, same_site, site_answers, site_moves}
 use Rattle.um_fine.specs.Steps.{Exchange, FineStep, Site}
 use Rattle.um_refinement.specs.Fine.{Fine, clock, joins, one_if, scheduler}
 use Rattle.um_refinement.specs.Lists.{adders, counted, has_steps, is_end_call, is_recycle}
-use Rattle.um_refinement.specs.Offers.{IsPutBack}
-use Rattle.um_refinement.specs.Threads.{IsOf, cutters as cuts, is_ready_there, occurs}
+use Rattle.um_refinement.specs.Threads.{cutters as cuts, is_ready_there, occurs}
 use Rattle.um_refinement.proofs.ChildrenKnown.{AllCreate}
 use Rattle.um_refinement.proofs.Erased.{around}
 use Rattle.um_refinement.proofs.Kept.{joins-sort}
 use Rattle.um_refinement.proofs.Leaves.{Lawful}
 use Rattle.um_refinement.proofs.ListDone.{says_done}
 use Rattle.um_refinement.proofs.ListTails.{exact-next}
-use Rattle.um_refinement.proofs.ListWakes.{Wakes, wakers}
 use Rattle.um_refinement.proofs.MarksPart.{clock-same}
 use Rattle.um_refinement.proofs.Offered.{runs-first}
 use Rattle.um_refinement.proofs.ResumeSteps.{told-some}
@@ -56,7 +53,7 @@ use Rattle.um_order.proofs.Follow.{Followed, FollowsBy, cleans-none-by, only}
 use Rattle.um_order.proofs.LeaveOrder.{goes-awake}
 use Rattle.um_order.proofs.ReadyLines.{joins-new}
 use Rattle.um_order.proofs.ShowSteps.{goes-some}
-use Rattle.um_order.proofs.Standing.{Begun, ComeAlone, Looks, Rouses, Stands, Turns, back, begun, comers, cutters, goes, inside_of, is_calm, is_show, woken_of}
+use Rattle.um_order.proofs.Standing.{Begun, ComeAlone, Looks, Rouses, Turns, back, begun, comers, inside_of, is_calm, is_show, woken_of}
 
 pub filled-same : (image : Image) (c : Context) (todo : Todos) → has_steps todo ≡ true → filled_up image c todo ≡ todo
 filled-same image c [] h = absurd (false≢true h)

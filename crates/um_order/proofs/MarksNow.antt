@@ -1,8 +1,8 @@
 -- Where each step is chosen, time doesn't pass a mark that wasn't given: its deadline isn't behind now, nor is that of a mark in the hand.
 use Rattle.std.specs.List.{list_all}
 use Rattle.std.specs.Prelude.{◌==◌, ◌&&◌, ◌||◌, not, if◌then◌else◌, is_some, nat_le, nat_lt, unwrap_or, IsTrue, min}
-use Rattle.std.proofs.Common.{◌≡◌, inl, inr, ℕ, zero, suc, ◌+◌, ◌<◌, ◌≤◌, arith, Bool, true, false, List, [], ◌∷◌, Option, Some, None, refl, sym, ap, ◌∙◌, subst, eq-eqb}
-use Rattle.std.proofs.lemmas.Bool.{and_parts, and_from, eqb-true, false≢true, true≢false, leb-true, le-leb, ltb-true, ltb-false, lt-ltb, leb-false}
+use Rattle.std.proofs.Common.{◌≡◌, inr, ℕ, zero, suc, ◌+◌, ◌<◌, ◌≤◌, arith, Bool, true, false, List, [], ◌∷◌, Option, Some, None, refl, sym, ap, ◌∙◌, subst, eq-eqb}
+use Rattle.std.proofs.lemmas.Bool.{and_parts, and_from, eqb-true, false≢true, true≢false, leb-true, le-leb, lt-ltb, leb-false}
 use Rattle.um_base.specs.declared.act.Act.{Act}
 use Rattle.um_machine.specs.Order.{Steps}
 use Rattle.um_machine.specs.State.{State}
@@ -11,27 +11,24 @@ use Rattle.um_machine.specs.declared.pending.Pending.{Pending}
 use Rattle.um_words.specs.declared.fine.FineAct.{FineAct}
 use Rattle.um_words.specs.declared.fine.Mark.{Mark}
 use Rattle.um_words.specs.declared.fine.Unseen.{Unseen}
-use Rattle.um_fine.specs.Answers.{act_in, deadline_in, due_in, is_due_act, is_tick, mark_in, ticks_in}
+use Rattle.um_fine.specs.Answers.{act_in, deadline_in, due_in, is_tick, mark_in, ticks_in}
 use Rattle.um_fine.specs.Asks.{by_actor, by_me}
-use Rattle.um_fine.specs.Clock.{Clock, Marked, clock_says, deadlines, first_due, give_first, is_due, is_unsettled, same_mark, settle_first}
-use Rattle.um_fine.specs.Clock as C
+use Rattle.um_fine.specs.Clock.{Clock, Marked, deadlines, first_due, give_first, is_due, is_unsettled, same_mark, settle_first}
 use Rattle.um_fine.specs.Places.{Todo, Todos, is_paid}
-use Rattle.um_fine.specs.Processor.{Processor}
 use Rattle.um_fine.specs.Scheduler.{first_ready, has_ready}
 use Rattle.um_fine.specs.Sites.{same_site}
 use Rattle.um_fine.specs.Steps.{Exchange, FineStep, Site}
-use Rattle.um_fine.proofs.Keys.{same-sound}
 use Rattle.um_refinement.specs.Choice.{IsChosen}
 use Rattle.um_refinement.specs.Fine.{Fine, scheduler, clock}
 use Rattle.um_refinement.specs.Frames.{AreFramed}
 use Rattle.um_refinement.specs.Lists.{counted, is_arm, times}
 use Rattle.um_refinement.specs.Timing.{IsHand, handles}
-use Rattle.um_refinement.proofs.ClockSteps.{clock-else, clock-later, clock-said, is_timing}
+use Rattle.um_refinement.proofs.ClockSteps.{clock-else, clock-later, clock-said}
 use Rattle.um_refinement.proofs.Erased.{around}
 use Rattle.um_refinement.proofs.Kept.{IdleStep, gives, idle-step, ticks, turns}
 use Rattle.um_refinement.proofs.Leaves.{Lawful}
 use Rattle.um_refinement.proofs.ListMarks.{handles-of, in_hand, next-count, taken-count, takes-free}
-use Rattle.um_refinement.proofs.MarkFacts.{all-armed, due-parts, first-due, same-itself}
+use Rattle.um_refinement.proofs.MarkFacts.{all-armed, due-parts, same-itself}
 use Rattle.um_refinement.proofs.MarksPart.{clock-same, hand-tail, handle-paid, untimed}
 use Rattle.um_refinement.proofs.SchedulerSteps.{made-at, made-says}
 use Rattle.um_refinement.proofs.StepReads.{is-behind, reads-last}

@@ -1,7 +1,7 @@
 -- While the object of a thread is marked that doesn't live, one thread is within the call that starts it, or that clears the mark again. Each step of the
 -- machine keeps that, unless it starts that thread or clears the mark.
 use Rattle.std.specs.Prelude.{◌==◌, unwrap_or, slice_index_or, ℤ}
-use Rattle.std.proofs.Common.{◌≡◌, ◌≢◌, ◌⊎◌, inl, inr, ℕ, zero, suc, ◌<◌, arith, length, Bool, true, false, List, [], ◌∷◌, Option, Some, None, refl, sym, ap, ◌∙◌, subst}
+use Rattle.std.proofs.Common.{◌≡◌, ◌⊎◌, inl, inr, ℕ, zero, suc, ◌<◌, arith, length, Bool, true, false, List, [], ◌∷◌, Option, Some, None, refl, sym, ap, ◌∙◌, subst}
 use Rattle.std.proofs.lemmas.Bool.{and_parts, false≢true, true≢false, eqb-true, eqb-false}
 use Rattle.std.proofs.lemmas.List.{get_or-set_same}
 use Rattle.um_base.specs.Places.{own_row, row_at}
@@ -31,7 +31,7 @@ use Rattle.um_fine.specs.Addresses.{row_named}
 use Rattle.um_refinement.proofs.CallsProper.{AreProper, offered-proper}
 use Rattle.um_order.proofs.CallsKept.{AreCalls, AtMostOne, IsBack, within}
 use Rattle.um_order.proofs.InitLeft.{MarksIt, cleared-init}
-use Rattle.um_order.proofs.InitShapes.{IsThread, Makes, Clears, Inits}
+use Rattle.um_order.proofs.InitShapes.{IsThread, Makes, Clears}
 use Rattle.um_order.proofs.InitsKept.{AllInits, offered-inits}
 use Rattle.um_order.proofs.ThreadsMoved.{IsMoved, IsShort, Shortens, beside-left, other-left, thread-wrote}
 

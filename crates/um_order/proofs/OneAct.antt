@@ -1,9 +1,8 @@
 -- What is left of a call has at most one step by which it acts in a cell, resumes, or stops or goes on with a thread; and an answer stands behind one that
 -- stops or goes on with a thread. Each step of the machine keeps that of the thread that makes it.
-use Rattle.std.proofs.Common.{◌≡◌, ◌⊎◌, inl, inr, ℕ, Bool, true, false, List, [], ◌∷◌, ◌++◌, Option, Some, None, refl, sym, ap, ◌∙◌, subst}
+use Rattle.std.proofs.Common.{◌≡◌, ◌⊎◌, inl, inr, ℕ, Bool, true, false, [], ◌∷◌, ◌++◌, Option, Some, None, refl, sym, subst}
 use Rattle.std.specs.Prelude.{◌+◌, ◌==◌, ◌&&◌, not, if◌then◌else◌, length, nat_lt, ℤ}
-use Rattle.std.proofs.lemmas.Bool.{false≢true, true≢false}
-use Rattle.um_base.specs.declared.act.Answer.{Answer}
+use Rattle.std.proofs.lemmas.Bool.{false≢true}
 use Rattle.um_base.specs.declared.act.Cause.{Cause}
 use Rattle.um_base.specs.declared.act.Found.{Found}
 use Rattle.um_base.specs.declared.act.SetSaid.{SetSaid}
@@ -24,7 +23,7 @@ use Rattle.um_machine.specs.declared.pending.Pending.{Pending}
 use Rattle.um_machine.specs.declared.pending.Refusal.{Refusal}
 use Rattle.um_machine.specs.declared.thread.Thread.{Thread}
 use Rattle.um_machine.specs.Goes.{Change, Next, Way, at_steps, changed, checked_way, copied, gone, no_access, reserve_way, set_way, steps_by, text_way, told_way, without_copy, asked_way}
-use Rattle.um_machine.specs.Order.{Steps, aborts, answer_error, answer_void, answer_zero, arms, buffered, creates, end_steps, fatal_steps, privileged, steps_of, to_addr, to_deadline, to_thread, work}
+use Rattle.um_machine.specs.Order.{Steps, aborts, answer_error, answer_void, answer_zero, arms, buffered, creates, fatal_steps, privileged, steps_of, to_addr, to_deadline, to_thread, work}
 use Rattle.um_machine.specs.Services.{is_empty}
 use Rattle.um_machine.specs.Futexes.{futex_refusal, futex_woken, wake_answer}
 use Rattle.um_machine.specs.Memory.{string_read}

@@ -1,13 +1,11 @@
 -- What goes along the steps of one processor, and that each lawful step that is chosen keeps it.
 use Rattle.std.specs.Prelude.{slice_index_or}
-use Rattle.std.proofs.Common.{◌≡◌, ℕ, true, cond, length, refl, sym, ap, ◌∙◌, subst, arith, eq-eqb, Some, inl, inr, [], ◌∷◌, ◌⊎◌, ◌<◌, false}
+use Rattle.std.proofs.Common.{◌≡◌, ℕ, true, cond, length, refl, sym, ap, ◌∙◌, subst, arith, eq-eqb, Some, inl, inr, [], ◌∷◌, false}
 use Rattle.um_base.specs.Lawful.{IsLawful}
 use Rattle.um_base.specs.declared.ask.Ask.{Ask}
 use Rattle.um_base.specs.declared.image.Image.{Image}
-use Rattle.um_base.specs.declared.limits.TheConstants.{THREADS, ROWS}
 use Rattle.um_base.specs.declared.names.Addr.{Addr}
 use Rattle.um_base.specs.declared.names.ThreadIx.{ThreadIx}
-use Rattle.um_base.specs.declared.names.Timeout.{Timeout}
 use Rattle.um_machine.specs.Order.{Steps, to_thread}
 use Rattle.um_machine.specs.Run.{opening, Offers}
 use Rattle.um_machine.specs.State.{State, thread_at}
@@ -15,7 +13,6 @@ use Rattle.um_machine.specs.Table as T
 use Rattle.um_machine.specs.declared.pending.Pending.{Pending}
 use Rattle.um_invariants.specs.Described.{IsDescribed}
 use Rattle.um_invariants.specs.InOrder.{Point}
-use Rattle.um_invariants.specs.NextSteps.{IsLeast}
 use Rattle.um_invariants.proofs.Cores.{core_of}
 use Rattle.um_invariants.proofs.Guards.{IsSited}
 use Rattle.um_invariants.proofs.ThreadWords.{AreKept}
@@ -48,7 +45,7 @@ use Rattle.um_refinement.proofs.LawfulSteps.{Suits, lawful-next}
 use Rattle.um_refinement.proofs.Leaves.{Lawful}
 use Rattle.um_refinement.proofs.MemoryPart.{InDomains}
 use Rattle.um_refinement.proofs.NamesKnown.{gives-known, moves-known, names-known}
-use Rattle.um_refinement.proofs.Offered.{Shows, IsStep, shown-offers}
+use Rattle.um_refinement.proofs.Offered.{Shows, shown-offers}
 use Rattle.um_refinement.proofs.Parts.{AreKnown, related}
 use Rattle.um_refinement.proofs.QueuesKnown.{queues-known}
 use Rattle.um_refinement.proofs.Reachable.{IsWide, reachable-sound, reachable-wide}
@@ -57,7 +54,6 @@ use Rattle.um_refinement.proofs.SchedulerSteps.{made-says}
 use Rattle.um_refinement.proofs.SuitsKnown.{kept-known, proper-known, rests-known, suits-known, tells-known, waits-known, works-known}
 use Rattle.um_refinement.proofs.WaitersFound.{WaitersWait}
 use Rattle.um_refinement.proofs.WaitersKnown.{holds-known, untils-known, WaitersHold}
-use Rattle.um_refinement.proofs.Writes.{after-kept}
 use Rattle.um_order.proofs.BesideFull.{besides-full}
 use Rattle.um_order.proofs.CallsKept.{AtMostOne}
 use Rattle.um_order.proofs.Follow.{FollowsBy}

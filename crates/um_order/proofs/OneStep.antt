@@ -24,7 +24,6 @@ use Rattle.um_words.specs.declared.fine.Unseen.{Unseen}
 use Rattle.um_fine.specs.Answers.{act_in, is_tick, is_void, thread_in}
 use Rattle.um_fine.specs.Asks.{by_actor, by_me, marks_end}
 use Rattle.um_fine.specs.Clock.{deadlines}
-use Rattle.um_fine.specs.Context.{Context}
 use Rattle.um_fine.specs.Continues.{continues}
 use Rattle.um_fine.specs.Places.{Todo, Todos}
 use Rattle.um_fine.specs.Processor.{actor_or}

@@ -1,7 +1,7 @@
 -- With one processor at most one thread is within a call: the one that it runs.
-use Rattle.std.specs.Prelude.{is_some, ◌&&◌, ◌==◌, not, nat_lt, IsTrue, slice_index_or}
-use Rattle.std.proofs.Common.{◌≡◌, ◌≢◌, ◌⊎◌, inl, inr, ℕ, zero, suc, ◌+◌, ◌<◌, ◌≤◌, arith, length, Bool, true, false, List, [], ◌∷◌, Option, Some, None, refl, sym, ap, ◌∙◌, subst}
-use Rattle.std.proofs.lemmas.Bool.{and_parts, eqb-true, false≢true, true≢false, ltb-false, ltb-true, not-true}
+use Rattle.std.specs.Prelude.{is_some, ◌==◌, not, nat_lt, IsTrue, slice_index_or}
+use Rattle.std.proofs.Common.{◌≡◌, ◌⊎◌, inl, inr, ℕ, zero, suc, ◌+◌, ◌<◌, ◌≤◌, arith, length, Bool, true, false, List, [], ◌∷◌, Option, Some, None, refl, sym, ap, ◌∙◌, subst}
+use Rattle.std.proofs.lemmas.Bool.{and_parts, eqb-true, false≢true, ltb-false, ltb-true}
 use Rattle.um_base.specs.declared.limits.TheConstants.{THREADS}
 use Rattle.um_machine.specs.Order.{Steps}
 use Rattle.um_machine.specs.State.{State, nobody, thread_at}
@@ -12,7 +12,7 @@ use Rattle.um_fine.specs.Joins.{asleep_at}
 use Rattle.um_fine.specs.Processor.{Processor}
 use Rattle.um_fine.specs.Scheduler.{parked_at, waits}
 use Rattle.um_refinement.specs.Fine.{Fine, scheduler, one_if, total, joins}
-use Rattle.um_refinement.specs.Lists.{runs, runs_thread, adders, of_thread, Adds}
+use Rattle.um_refinement.specs.Lists.{runs, runs_thread, adders, of_thread}
 use Rattle.um_refinement.specs.Offers.{is_over, IsPutBack}
 use Rattle.um_refinement.specs.Relation.{Rel}
 use Rattle.um_refinement.specs.Threads.{runs_on, places, IsOf, as_cut}

@@ -1,34 +1,29 @@
 -- A processor is to read its thread's word once more only where that thread waits.
 use Rattle.std.specs.List.{list_any}
-use Rattle.std.specs.Prelude.{◌||◌, if◌then◌else◌, nat_lt, is_some}
-use Rattle.std.proofs.Common.{◌≡◌, ◌⊎◌, inl, inr, ℕ, Bool, true, false, List, [], ◌∷◌, ◌++◌, Option, Some, None, refl, sym, ap, ◌∙◌, subst}
-use Rattle.std.proofs.lemmas.Bool.{and_parts, false≢true, true≢false}
+use Rattle.std.specs.Prelude.{if◌then◌else◌, is_some}
+use Rattle.std.proofs.Common.{◌≡◌, ℕ, Bool, true, false, [], ◌∷◌, ◌++◌, Option, Some, None, refl, sym, ap, ◌∙◌, subst}
+use Rattle.std.proofs.lemmas.Bool.{false≢true, true≢false}
 use Rattle.um_base.specs.Places.{thread_of_row}
 use Rattle.um_base.specs.declared.act.Act.{Act}
 use Rattle.um_base.specs.declared.act.Answer.{Answer}
-use Rattle.um_base.specs.declared.ask.Ask.{Ask}
 use Rattle.um_base.specs.declared.image.Image.{Image}
-use Rattle.um_base.specs.declared.names.Mode.{Mode}
-use Rattle.um_machine.specs.Goes.{work_way, asked_way, Change, Next, work_change}
+use Rattle.um_machine.specs.Goes.{work_way, asked_way, Next, work_change}
 use Rattle.um_machine.specs.Order.{Steps}
-use Rattle.um_machine.specs.Services.{is_empty}
 use Rattle.um_machine.specs.State.{State}
-use Rattle.um_machine.specs.Table as T
 use Rattle.um_machine.specs.declared.pending.Pending.{Pending}
-use Rattle.um_machine.specs.declared.thread.Thread.{Thread}
-use Rattle.um_fine.specs.Answers.{is_word_read, is_visit, thread_in, domain_in, act_in, answer_in}
+use Rattle.um_fine.specs.Answers.{is_word_read, thread_in, domain_in, act_in, answer_in}
 use Rattle.um_fine.specs.Asks.{begins_cleaning}
 use Rattle.um_fine.specs.Context.{Context, as_thread}
 use Rattle.um_fine.specs.Continues.{continues, came_in, gone_part}
-use Rattle.um_fine.specs.Follows.{p_next, goes_on_by, after_claim, after_show, after_take, shown_step, looks_behind, behind_step, filled_up, waits_behind, rereads, dropped_at, with_cleaned, row_number, refilled_by}
-use Rattle.um_fine.specs.Places.{Todo, Todos, put_away, noted_cell, next_steps, fine_steps, end_of_turn, cleaning_of, is_cleaning_todo, handling, settling, armed_for, turn}
+use Rattle.um_fine.specs.Follows.{goes_on_by, after_claim, after_show, shown_step, behind_step, filled_up, waits_behind, rereads, with_cleaned, row_number}
+use Rattle.um_fine.specs.Places.{Todo, Todos, put_away, noted_cell, next_steps, fine_steps, end_of_turn, cleaning_of, is_cleaning_todo, settling, armed_for}
 use Rattle.um_fine.specs.Processor.{Processor}
 use Rattle.um_fine.specs.Scheduler.{waits}
 use Rattle.um_fine.specs.Steps.{Exchange, FineStep}
 use Rattle.um_refinement.specs.Fine.{Fine}
-use Rattle.um_refinement.specs.Frames.{AreFramed, Behind}
+use Rattle.um_refinement.specs.Frames.{AreFramed}
 use Rattle.um_refinement.specs.Lists.{names_row}
-use Rattle.um_refinement.specs.Offers.{behind_shown, Fits, IsOffered}
+use Rattle.um_refinement.specs.Offers.{behind_shown, Fits}
 use Rattle.um_refinement.specs.Relation.{ProcessorIs}
 use Rattle.um_refinement.proofs.Erased.{around}
 use Rattle.um_refinement.proofs.Leaves.{Lawful}

@@ -4,13 +4,12 @@ use Rattle.std.specs.Prelude.{◌==◌, ◌&&◌, ◌||◌, not, if◌then◌els
 use Rattle.std.proofs.lemmas.Bool.{and_parts, false≢true, true≢false}
 use Rattle.std.proofs.lemmas.Bool.Decides.{nat_tests}
 use Rattle.um_base.specs.declared.limits.TheConstants.{THREADS}
-use Rattle.um_machine.specs.declared.pending.Pending.{Pending}
 use Rattle.um_machine.specs.declared.thread.Life.{Life}
 use Rattle.um_machine.specs.declared.thread.Thread.{Thread}
 use Rattle.um_machine.specs.Order.{Steps}
 use Rattle.um_machine.specs.Services.{is_empty}
 use Rattle.um_machine.specs.State.{State, is_living, thread_at}
-use Rattle.um_invariants.specs.Lines.{all_join, joins, stands}
+use Rattle.um_invariants.specs.Lines.{all_join, stands}
 use Rattle.um_invariants.specs.Ready.{is_at_rest}
 use Rattle.um_fine.specs.Context.{Context}
 use Rattle.um_fine.specs.Joins.{asleep_at, sleeps}
@@ -20,7 +19,7 @@ use Rattle.um_refinement.specs.Fine as F
 use Rattle.um_refinement.specs.Lists.{adders, of_thread}
 use Rattle.um_refinement.specs.Offers.{IsPutBack}
 use Rattle.um_refinement.specs.Relation.{Rel}
-use Rattle.um_refinement.specs.Threads.{IsOf, as_cut, cutters as cuts, is_ready_there, occurs, places, runs_on}
+use Rattle.um_refinement.specs.Threads.{IsOf, cutters as cuts, is_ready_there, occurs, places, runs_on}
 use Rattle.um_refinement.proofs.Offered.{not-cut}
 use Rattle.um_refinement.proofs.PlacesFacts.{parked-unslept}
 use Rattle.um_order.proofs.EventLines.{own-is, rest-is}

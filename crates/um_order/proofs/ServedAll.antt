@@ -1,7 +1,7 @@
 -- Of those who wait on an object an act leaves each one there, or wakes it; and the caller stands there if it is to wait.
 use Rattle.std.specs.List.{list_any}
-use Rattle.std.specs.Prelude.{◌==◌, ◌||◌, not, if◌then◌else◌, filter, take, reverse, nat_lt, nat_le, int_lt}
-use Rattle.std.proofs.Common.{◌≡◌, ◌⊎◌, inl, inr, ℕ, zero, suc, ◌-◌, Bool, true, false, List, [], ◌∷◌, ◌++◌, Option, Some, None, refl, sym, ap, ◌∙◌, subst, map, drop, length, eq-eqb}
+use Rattle.std.specs.Prelude.{◌==◌, ◌||◌, not, if◌then◌else◌, filter, reverse, nat_lt, nat_le, int_lt}
+use Rattle.std.proofs.Common.{◌≡◌, ◌⊎◌, inl, inr, ℕ, Bool, true, false, List, [], ◌∷◌, ◌++◌, Option, Some, None, refl, sym, ap, ◌∙◌, subst, map, length, eq-eqb}
 use Rattle.std.proofs.lemmas.Bool.{eqb-true, false≢true, true≢false}
 use Rattle.um_base.specs.declared.act.Answer.{Answer}
 use Rattle.um_base.specs.declared.ask.Ask.{Ask}
@@ -12,7 +12,7 @@ use Rattle.um_base.specs.declared.names.Reply.{Reply}
 use Rattle.um_base.specs.declared.names.ThreadIx.{ThreadIx}
 use Rattle.um_base.specs.declared.names.Timeout.{Timeout}
 use Rattle.um_machine.specs.Run.{stands_in}
-use Rattle.um_machine.specs.Services.{Acted, acted_by, all_told, blocks, fills, in_order, is_empty, is_getter, is_putter, is_reader, is_writer, msgq_act, msgq_get, msgq_peek, msgq_put, msgq_take, mutex_act, mutex_lock, mutex_passes, mutex_unlock, pipe, pipe_act, pipe_read, pipe_take, pipe_write, queue, read_length, readers_served, renews, running_act, sem_act, sem_give, sem_take, stack, stack_act, stack_pop, stack_push, still_waiting, stopped_act, timer_stops, told, uses, with_waiter, without, writers_served}
+use Rattle.um_machine.specs.Services.{Acted, acted_by, blocks, fills, in_order, is_empty, is_getter, is_putter, msgq_act, msgq_get, msgq_put, msgq_take, mutex_act, mutex_passes, pipe, pipe_act, queue, renews, running_act, sem_act, sem_give, stack, stack_act, stack_pop, stack_push, still_waiting, stopped_act, timer_stops, told, uses, with_waiter, without}
 use Rattle.um_machine.specs.Writes.{says_wait}
 use Rattle.um_machine.specs.declared.contents.Contents.{Contents}
 use Rattle.um_invariants.proofs.Outcomes.{Outcome, fronts, outcome, purges, serves, stays, tells, waits}

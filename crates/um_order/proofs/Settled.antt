@@ -1,11 +1,11 @@
 -- A processor without a list has settled each mark that it armed: where it is the only one, all are settled.
-use Rattle.std.proofs.Common.{◌≡◌, ℕ, ◌+◌, ◌<◌, Bool, true, false, List, [], ◌∷◌, refl, sym, ap, ◌∙◌, subst, arith, eq-eqb}
-use Rattle.std.specs.Prelude.{◌==◌, ◌&&◌, not, if◌then◌else◌}
+use Rattle.std.proofs.Common.{◌≡◌, ℕ, ◌+◌, Bool, true, false, List, [], ◌∷◌, refl, ap, arith, eq-eqb}
+use Rattle.std.specs.Prelude.{◌&&◌, not, if◌then◌else◌}
 use Rattle.std.specs.List.{list_all}
 use Rattle.std.proofs.lemmas.Bool.{and_from, false≢true}
 use Rattle.um_machine.specs.State.{State}
 use Rattle.um_words.specs.declared.fine.Mark.{Mark}
-use Rattle.um_fine.specs.Clock.{Marked, same_mark}
+use Rattle.um_fine.specs.Clock.{Marked}
 use Rattle.um_fine.specs.Places.{Todos}
 use Rattle.um_refinement.specs.Fine.{Fine, clock}
 use Rattle.um_refinement.specs.Lists.{counted}

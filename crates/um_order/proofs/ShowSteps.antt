@@ -1,9 +1,9 @@
 -- The event of a pending step follows: a thread goes on with its instruction, or begins a line or ends after it was taken from the ready list. This is
 -- of those that neither stop another thread nor go on with one.
-use Rattle.std.proofs.Common.{◌≡◌, ◌⊎◌, inl, inr, ℕ, zero, suc, ◌+◌, ◌<◌, Bool, true, false, List, [], ◌∷◌, ◌++◌, map, length, Option, Some, None, refl, sym, ap, ◌∙◌, subst, arith, append-nil, eq-eqb, eq-or-lt_of_le}
+use Rattle.std.proofs.Common.{◌≡◌, ◌⊎◌, inl, inr, ℕ, suc, ◌+◌, ◌<◌, Bool, true, false, List, [], ◌∷◌, ◌++◌, map, length, Option, Some, None, refl, sym, ap, ◌∙◌, subst, arith, append-nil}
 use Rattle.std.specs.Prelude.{◌==◌, ◌&&◌, ◌||◌, not, IsTrue, if◌then◌else◌, is_some}
 use Rattle.std.specs.List.{list_all, list_any}
-use Rattle.std.proofs.lemmas.Bool.{and_from, and_parts, eqb-true, false≢true, true≢false}
+use Rattle.std.proofs.lemmas.Bool.{and_from, and_parts, false≢true, true≢false}
 use Rattle.std.proofs.lemmas.Bool.Decides.{nat_tests}
 use Rattle.um_base.specs.declared.act.Act.{Act}
 use Rattle.um_base.specs.declared.names.Access.{Access}
@@ -31,23 +31,21 @@ use Rattle.um_invariants.specs.Ready.{behind_next, is_still, next_ready, readied
 use Rattle.um_invariants.proofs.ThreadOffers.{made, offered}
 use Rattle.um_invariants.proofs.ThreadWords.{AreKept, IsOffered as IsTurn, is_beside, is_resume}
 use Rattle.um_invariants.proofs.ThreadWaits.{numbers}
-use Rattle.um_words.specs.declared.thread_word.ThreadWord.{ThreadWord}
 use Rattle.um_fine.specs.Addresses.{row_named}
-use Rattle.um_fine.specs.Answers.{act_in, answer_in, is_done_in, is_killed, is_word_read, outcome_in, thread_in, woken_in}
-use Rattle.um_fine.specs.Asks.{allows, begins_cleaning, more_of, says_step}
-use Rattle.um_fine.specs.Clock.{Clock}
+use Rattle.um_fine.specs.Answers.{act_in, answer_in, is_done_in, outcome_in, thread_in, woken_in}
+use Rattle.um_fine.specs.Asks.{allows, more_of, says_step}
 use Rattle.um_fine.specs.Context.{Context}
 use Rattle.um_fine.specs.Continues.{continues}
 use Rattle.um_fine.specs.Follows.{after_show, behind_step, end_calls, goes_on_by, looks_behind, looks_for, shown_step, told_all, wakes}
 use Rattle.um_fine.specs.Places.{Todo, Todos, armed_for, put_away, settling}
 use Rattle.um_fine.specs.Processor.{Processor}
-use Rattle.um_fine.specs.Scheduler.{told_at, waits}
+use Rattle.um_fine.specs.Scheduler.{told_at}
 use Rattle.um_fine.specs.Sites.{same_site}
 use Rattle.um_fine.specs.Steps.{Exchange, FineStep, Site}
 use Rattle.um_refinement.specs.Cleaning.{AreBlocks}
 use Rattle.um_refinement.specs.Fine.{Fine, clock, one_if, scheduler}
 use Rattle.um_refinement.specs.Frames.{Behind}
-use Rattle.um_refinement.specs.Lists.{adders, counted, has_steps, is_sleep, is_wake, runs}
+use Rattle.um_refinement.specs.Lists.{adders, counted, has_steps, is_wake, runs}
 use Rattle.um_refinement.specs.Offers as O
 use Rattle.um_refinement.specs.Offers.{Fits, IsOffered, behind_shown, is_over}
 use Rattle.um_refinement.specs.Relation.{Rel}
@@ -64,7 +62,7 @@ use Rattle.um_refinement.proofs.ListAdders.{next-adders}
 use Rattle.um_refinement.proofs.ListDone.{says_done}
 use Rattle.um_refinement.proofs.ListGrowth.{ReadsLast, show-kept}
 use Rattle.um_refinement.proofs.ListRuns.{goes-on, goes-runs}
-use Rattle.um_refinement.proofs.ListWakes.{LastRead, Wakes, named, next-wakers, told_times, wake-times, wakers, woken_by}
+use Rattle.um_refinement.proofs.ListWakes.{LastRead, named, next-wakers, wake-times, wakers, woken_by}
 use Rattle.um_refinement.proofs.MemoryPart.{InDomains}
 use Rattle.um_refinement.proofs.OfKept.{of-kept}
 use Rattle.um_refinement.proofs.Offered.{IsStep, IsStopping, Shows, behind-is, by-made, own-part, own-same, shown-offers, shows-runs}

@@ -1,14 +1,11 @@
 -- An event that stops another thread, or goes on with one, follows. Behind it the processor looks whether that thread sleeps, or whether it waits.
-use Rattle.std.proofs.Common.{◌≡◌, ◌⊎◌, inl, inr, ℕ, ◌+◌, ◌<◌, Bool, true, false, List, [], ◌∷◌, ◌++◌, Option, Some, None, refl, sym, ap, ◌∙◌, subst, arith, append-nil, map}
-use Rattle.std.specs.Prelude.{◌==◌, ◌&&◌, not, if◌then◌else◌, is_some}
-use Rattle.std.specs.List.{list_all, list_any}
+use Rattle.std.proofs.Common.{◌≡◌, ◌⊎◌, inl, inr, ℕ, true, false, List, [], ◌∷◌, ◌++◌, Some, None, refl, sym, ap, ◌∙◌, subst, append-nil, map}
+use Rattle.std.specs.Prelude.{◌&&◌, not, if◌then◌else◌}
 use Rattle.std.proofs.lemmas.Bool.{false≢true, true≢false}
 use Rattle.um_base.specs.declared.act.Act.{Act}
 use Rattle.um_base.specs.declared.image.Image.{Image}
 use Rattle.um_base.specs.declared.names.ThreadIx.{ThreadIx}
-use Rattle.um_machine.specs.declared.pending.Pending.{Pending}
-use Rattle.um_machine.specs.declared.thread.Thread.{Thread}
-use Rattle.um_machine.specs.Order.{Steps, to_thread}
+use Rattle.um_machine.specs.Order.{to_thread}
 use Rattle.um_machine.specs.Services.{is_empty}
 use Rattle.um_machine.specs.State.{State, is_waiting, thread_at}
 use Rattle.um_invariants.specs.Armings.{armings_after}
@@ -20,8 +17,7 @@ use Rattle.um_words.specs.declared.fine.FineAct.{FineAct}
 use Rattle.um_words.specs.declared.fine.More.{More}
 use Rattle.um_fine.specs.Context.{Context}
 use Rattle.um_fine.specs.Joins.{sleeps}
-use Rattle.um_fine.specs.Places.{Todo, Todos, end_of_turn, fine_steps, next_steps}
-use Rattle.um_fine.specs.Processor.{Processor}
+use Rattle.um_fine.specs.Places.{Todo, Todos, end_of_turn, next_steps}
 use Rattle.um_fine.specs.Scheduler.{waits}
 use Rattle.um_fine.specs.Steps.{FineStep}
 use Rattle.um_refinement.specs.Fine.{Fine, clock, joins, scheduler}
@@ -35,13 +31,13 @@ use Rattle.um_refinement.proofs.ListDone.{Ends, filled-ends, says_done}
 use Rattle.um_refinement.proofs.ListGrowth.{forms-kept, next-kept, visits_row}
 use Rattle.um_refinement.proofs.ListWakes.{fine-none, wakers}
 use Rattle.um_order.proofs.ArmingOrder.{Plain}
-use Rattle.um_order.proofs.EventLines.{inside-is, own-is, rest-is}
+use Rattle.um_order.proofs.EventLines.{inside-is, rest-is}
 use Rattle.um_order.proofs.Follow.{Followed, FollowsBy, cleans-none}
 use Rattle.um_order.proofs.LeaveOrder.{goes-awake}
 use Rattle.um_order.proofs.ListCalm.{calm-expands, cuts-expands}
 use Rattle.um_order.proofs.ListShapes.{is_own, next-clear}
 use Rattle.um_order.proofs.ShowSteps.{goes-some}
-use Rattle.um_order.proofs.Standing.{ComeAlone, Looks, Rouses, Stands, Turns, back, begun, comers, cutters, goes, inside_of, is_calm, is_show, looks, rouses, woken_of}
+use Rattle.um_order.proofs.Standing.{Turns, back, begun, comers, cutters, goes, looks, rouses, woken_of}
 
 -- the fresh steps of a thread
 module _ (image : Image) where

@@ -1,8 +1,8 @@
 -- A thread goes on with another one: the event follows, and the processor looks whether that one sleeps.
-use Rattle.std.proofs.Common.{◌≡◌, ◌⊎◌, inl, inr, ℕ, ◌+◌, ◌<◌, Bool, true, false, List, [], ◌∷◌, ◌++◌, Option, Some, None, refl, sym, ap, ◌∙◌, subst, arith, append-nil, eq-eqb}
+use Rattle.std.proofs.Common.{◌≡◌, ◌⊎◌, inl, inr, ℕ, ◌<◌, Bool, true, false, [], ◌∷◌, ◌++◌, Some, None, refl, sym, ap, ◌∙◌, subst, arith, append-nil, eq-eqb}
 use Rattle.std.specs.Prelude.{◌==◌, ◌&&◌, not, if◌then◌else◌, is_some}
 use Rattle.std.specs.List.{list_any}
-use Rattle.std.proofs.lemmas.Bool.{and_parts, eqb-true, false≢true, true≢false}
+use Rattle.std.proofs.lemmas.Bool.{eqb-true, true≢false}
 use Rattle.um_base.specs.declared.act.Act.{Act}
 use Rattle.um_base.specs.declared.act.Answer.{Answer}
 use Rattle.um_base.specs.declared.image.Image.{Image}
@@ -14,16 +14,15 @@ use Rattle.um_machine.specs.Order.{Steps, to_thread}
 use Rattle.um_machine.specs.Services.{is_empty}
 use Rattle.um_machine.specs.State.{State, thread_at}
 use Rattle.um_machine.specs.Table as T
-use Rattle.um_invariants.specs.InOrder.{Point, waiting}
+use Rattle.um_invariants.specs.InOrder.{Point}
 use Rattle.um_invariants.specs.Ready.{behind_next, is_at_rest, next_ready, roused, running_or}
 use Rattle.um_words.specs.declared.fine.FineAct.{FineAct}
-use Rattle.um_words.specs.declared.fine.More.{More}
-use Rattle.um_fine.specs.Answers.{act_in, answer_in, is_done_in, is_killed, is_word_read, thread_in}
-use Rattle.um_fine.specs.Asks.{begins_cleaning, more_of, says_step, shows}
+use Rattle.um_fine.specs.Answers.{act_in, answer_in, is_done_in, is_killed, thread_in}
+use Rattle.um_fine.specs.Asks.{begins_cleaning, more_of, says_step}
 use Rattle.um_fine.specs.Clock.{Clock}
 use Rattle.um_fine.specs.Context.{Context}
 use Rattle.um_fine.specs.Continues.{continues}
-use Rattle.um_fine.specs.Follows.{after_show, filled_up, goes_on_by, rereads, shown_step, with_actor}
+use Rattle.um_fine.specs.Follows.{after_show, filled_up, rereads, with_actor}
 use Rattle.um_fine.specs.Joins.{asleep_at, sleeps}
 use Rattle.um_fine.specs.Places.{Todo, Todos, next_steps, put_away}
 use Rattle.um_fine.specs.Processor.{Processor}
@@ -36,7 +35,7 @@ use Rattle.um_refinement.specs.Offers.{Fits, IsOffered, is_over}
 use Rattle.um_refinement.specs.Relation.{Rel}
 use Rattle.um_refinement.specs.Threads.{IsOf, cutters as cuts, runs_on}
 use Rattle.um_refinement.proofs.ChildrenKnown.{AllCreate}
-use Rattle.um_refinement.proofs.ContextsPart.{event-uncut, now-context}
+use Rattle.um_refinement.proofs.ContextsPart.{event-uncut}
 use Rattle.um_refinement.proofs.Erased.{around}
 use Rattle.um_refinement.proofs.LawfulSteps.{Suits}
 use Rattle.um_refinement.proofs.Leaves.{Lawful, event}
@@ -58,7 +57,7 @@ use Rattle.um_order.proofs.ListShapes.{is_own}
 use Rattle.um_order.proofs.NextSteps.{leads, next-is}
 use Rattle.um_order.proofs.RousedLines.{roused-line}
 use Rattle.um_order.proofs.ShowSteps.{goes-offered, goes-some}
-use Rattle.um_order.proofs.Standing.{Begun, IsFull, back, comers, goes, inside_of, is_show}
+use Rattle.um_order.proofs.Standing.{Begun, IsFull, back, comers, goes, is_show}
 use Rattle.um_order.proofs.StirOrder.{IsStir, line, not-rests, to-rouses}
 
 no-reread : (image : Image) (answer : Answer) → rereads image answer None [] ≡ []

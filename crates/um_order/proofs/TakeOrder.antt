@@ -1,5 +1,5 @@
 -- A woken thread is taken from the ready list, the first behind those that stand still, and resumes.
-use Rattle.std.proofs.Common.{◌≡◌, ◌⊎◌, inl, inr, ℕ, suc, ◌+◌, ◌<◌, Bool, true, false, [], ◌∷◌, ◌++◌, map, length, drop, Option, Some, None, refl, sym, ap, ◌∙◌, subst, arith}
+use Rattle.std.proofs.Common.{◌≡◌, ◌⊎◌, inl, inr, ℕ, suc, ◌<◌, Bool, true, false, [], ◌∷◌, ◌++◌, map, length, drop, Some, None, refl, sym, ap, ◌∙◌, subst, arith}
 use Rattle.std.specs.Prelude.{◌==◌, ◌&&◌, ◌||◌, not, if◌then◌else◌, is_some, slice_get}
 use Rattle.std.specs.List.{list_all, list_any}
 use Rattle.std.proofs.lemmas.Bool.{and_parts, true≢false}
@@ -25,10 +25,10 @@ use Rattle.um_fine.specs.Continues.{resumed}
 use Rattle.um_fine.specs.Follows.{after_take, goes_on_by, with_actor}
 use Rattle.um_fine.specs.Places.{end_of_turn, next_steps}
 use Rattle.um_fine.specs.Processor.{Processor}
-use Rattle.um_fine.specs.Scheduler.{Scheduler, is_cut, parked_at, told_at}
+use Rattle.um_fine.specs.Scheduler.{Scheduler, is_cut, told_at}
 use Rattle.um_fine.specs.Sites.{same_site}
 use Rattle.um_fine.specs.Steps.{Exchange, FineStep, Site}
-use Rattle.um_refinement.specs.Fine.{Fine, clock, one_if, scheduler}
+use Rattle.um_refinement.specs.Fine.{Fine, clock, scheduler}
 use Rattle.um_refinement.specs.Lists.{has_steps, runs}
 use Rattle.um_refinement.specs.Relation.{Rel}
 use Rattle.um_refinement.specs.Threads.{IsOf, cutters as cuts}

@@ -1,8 +1,7 @@
 -- A thread is taken from the ready list: the first behind those that stand still. If it stands still itself, it is given up, or goes to sleep. Where none
 -- is ready, a mark that is due is given.
-use Rattle.std.proofs.Common.{◌≡◌, ◌⊎◌, inl, inr, ℕ, suc, ◌+◌, ◌<◌, Bool, true, false, List, [], ◌∷◌, ◌++◌, length, Option, Some, None, refl, sym, ap, ◌∙◌, subst, arith, append-nil, append_assoc}
-use Rattle.std.specs.Prelude.{◌==◌, ◌&&◌, ◌||◌, not, if◌then◌else◌, is_some}
-use Rattle.std.specs.List.{list_any}
+use Rattle.std.proofs.Common.{◌≡◌, ◌⊎◌, inl, inr, ◌<◌, Bool, true, false, [], ◌∷◌, ◌++◌, length, Option, Some, None, refl, sym, ap, ◌∙◌, subst, arith, append-nil, append_assoc}
+use Rattle.std.specs.Prelude.{◌==◌, ◌&&◌, ◌||◌, not, if◌then◌else◌}
 use Rattle.std.proofs.lemmas.Bool.{and_parts, false≢true, true≢false}
 use Rattle.um_base.specs.declared.act.Act.{Act}
 use Rattle.um_base.specs.declared.ask.Told.{Told}
@@ -18,17 +17,16 @@ use Rattle.um_invariants.specs.InOrder.{Point}
 use Rattle.um_invariants.specs.Ready.{is_still}
 use Rattle.um_words.specs.Threads.{counted_thread, thread_after}
 use Rattle.um_words.specs.declared.fine.FineAct.{FineAct}
-use Rattle.um_words.specs.declared.fine.Mark.{Mark}
 use Rattle.um_words.specs.declared.fine.Unseen.{Unseen}
 use Rattle.um_words.specs.declared.thread_word.ThreadWord.{ThreadWord}
-use Rattle.um_fine.specs.Answers.{is_due_act, is_killed, is_tick, is_word_read, thread_in}
-use Rattle.um_fine.specs.Asks.{begins_cleaning, by_me, fits, fits_show, says_idle, says_show, says_turn, shows, site_of_step, stops_rightly}
-use Rattle.um_fine.specs.Clock.{Clock, Marked, clock_after, first_due, give_first}
+use Rattle.um_fine.specs.Answers.{is_due_act, is_killed, is_word_read, thread_in}
+use Rattle.um_fine.specs.Asks.{begins_cleaning, by_me, fits, fits_show, says_show, says_turn, shows, site_of_step}
+use Rattle.um_fine.specs.Clock.{Clock, Marked, first_due, give_first}
 use Rattle.um_fine.specs.Context.{Context}
 use Rattle.um_fine.specs.Follows.{after_show, after_take, goes_on_by, refilled_by, shown_step, with_actor}
-use Rattle.um_fine.specs.Places.{Todo, Todos, handling, put_away, turn, turn_of}
+use Rattle.um_fine.specs.Places.{Todo, Todos, put_away, turn, turn_of}
 use Rattle.um_fine.specs.Processor.{Processor}
-use Rattle.um_fine.specs.Scheduler.{Scheduler, is_cut, parked_at, takes_turn, to_kill, told_at, waits}
+use Rattle.um_fine.specs.Scheduler.{Scheduler, is_cut, takes_turn, to_kill, waits}
 use Rattle.um_fine.specs.Sites.{SiteState, s_next, same_site, site_after, word_of}
 use Rattle.um_fine.specs.Steps.{Exchange, FineStep, Site}
 use Rattle.um_refinement.specs.Choice.{IsChosen}

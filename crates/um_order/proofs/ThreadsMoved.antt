@@ -1,12 +1,12 @@
 -- What a step of the machine leaves of each thread: of one that doesn't make it the steps, unless it is started or cut; who is aborted or doomed then was
 -- so before, or is now by that step.
 use Rattle.std.specs.List.{list_all}
-use Rattle.std.specs.Prelude.{◌==◌, ◌&&◌, not, if◌then◌else◌, is_some, slice_index_or}
-use Rattle.std.proofs.Common.{◌≡◌, ◌≢◌, ◌⊎◌, inl, inr, ℕ, zero, suc, ◌+◌, Bool, true, false, List, [], ◌∷◌, Option, Some, None, refl, sym, ap, ◌∙◌, subst}
+use Rattle.std.specs.Prelude.{is_some, slice_index_or}
+use Rattle.std.proofs.Common.{◌≡◌, ◌≢◌, ◌⊎◌, inl, inr, ℕ, zero, suc, ◌+◌, Bool, true, false, List, [], ◌∷◌, Some, None, refl, sym, ap, ◌∙◌, subst}
 use Rattle.std.proofs.lemmas.Bool.{and_parts, false≢true, true≢false}
 use Rattle.um_machine.specs.Goes.{Next, gone, went}
 use Rattle.um_machine.specs.Order.{Steps}
-use Rattle.um_machine.specs.State.{State, is_living, nobody, thread_at, with_thread, is_to_resume, is_waiting, with_pair}
+use Rattle.um_machine.specs.State.{State, is_living, nobody, thread_at, with_thread, is_to_resume, with_pair}
 use Rattle.um_machine.specs.Table as T
 use Rattle.um_machine.specs.Writes.{Effect, wrote, Effects, Flag, cut, effect, flagged, only}
 use Rattle.um_machine.specs.declared.pending.Pending.{Pending}

@@ -1,11 +1,10 @@
 -- Time goes on: no thread is ready but those that stand still, and each deadline that has come was gone through. A tick follows, by the thread of the last
 -- event.
-use Rattle.std.proofs.Common.{◌≡◌, ◌⊎◌, inl, inr, ℕ, Bool, true, false, List, [], ◌∷◌, ◌++◌, Option, Some, None, refl, sym, ap, ◌∙◌, subst, append-nil}
-use Rattle.std.specs.Prelude.{if◌then◌else◌, unwrap_or}
-use Rattle.std.proofs.lemmas.Bool.{false≢true, true≢false}
+use Rattle.std.proofs.Common.{◌≡◌, ◌⊎◌, inl, inr, ℕ, true, false, List, [], ◌++◌, Option, Some, None, refl, sym, ap, ◌∙◌, subst, append-nil}
+use Rattle.std.specs.Prelude.{unwrap_or}
+use Rattle.std.proofs.lemmas.Bool.{false≢true}
 use Rattle.um_base.specs.declared.act.Act.{Act}
 use Rattle.um_base.specs.declared.image.Image.{Image}
-use Rattle.um_base.specs.declared.names.ThreadIx.{ThreadIx}
 use Rattle.um_machine.specs.declared.pending.Pending.{Pending}
 use Rattle.um_machine.specs.Order.{to_thread}
 use Rattle.um_machine.specs.Run.{MayChoose, tends}
@@ -16,7 +15,6 @@ use Rattle.um_invariants.specs.Armings.{Arming, gone_through}
 use Rattle.um_invariants.specs.InOrder.{Makes, Point, time_cell, time_step}
 use Rattle.um_invariants.specs.Ready.{next_ready, running_or, with_readied}
 use Rattle.um_words.specs.declared.fine.FineAct.{FineAct}
-use Rattle.um_words.specs.declared.fine.More.{More}
 use Rattle.um_fine.specs.Answers.{is_tick}
 use Rattle.um_fine.specs.Asks.{begins_cleaning, by_actor, says_turn}
 use Rattle.um_fine.specs.Clock.{Clock, first_due}
@@ -26,7 +24,7 @@ use Rattle.um_fine.specs.Scheduler.{Scheduler}
 use Rattle.um_fine.specs.Sites.{same_site}
 use Rattle.um_fine.specs.Steps.{Exchange, FineStep, Site}
 use Rattle.um_refinement.specs.Choice.{IsChosen}
-use Rattle.um_refinement.specs.Fine.{Fine, clock, joins, scheduler}
+use Rattle.um_refinement.specs.Fine.{Fine, clock, scheduler}
 use Rattle.um_refinement.proofs.ChildrenKnown.{AllCreate}
 use Rattle.um_refinement.proofs.ClockSteps.{clock-later}
 use Rattle.um_refinement.proofs.Erased.{around}
@@ -38,7 +36,7 @@ use Rattle.um_order.proofs.ArmingOrder.{AreSettled, Passed, Plain, StepsNone, fr
 use Rattle.um_order.proofs.Follow.{Followed, FollowsBy, cleans-none}
 use Rattle.um_order.proofs.ListShapes.{is_own}
 use Rattle.um_order.proofs.ReadyLines.{next-skips}
-use Rattle.um_order.proofs.Standing.{AllStill, Idles, Stands, idles}
+use Rattle.um_order.proofs.Standing.{AllStill, Idles, idles}
 
 -- where all stand still, none of them is next
 pub none-next : (s : State) (ts : List ℕ) → AllStill s ts → next_ready s ts ≡ None

@@ -1,16 +1,14 @@
 -- The end of a wait follows, whose mark is in the hand; and so does the expiry of a timer.
-use Rattle.std.proofs.Common.{◌≡◌, ◌⊎◌, ℕ, ◌+◌, ◌<◌, Bool, true, false, List, [], ◌∷◌, Option, Some, None, refl, sym, ap, ◌∙◌, subst, eqb-true, eq-eqb}
-use Rattle.std.specs.Prelude.{◌==◌, ◌&&◌, is_some}
+use Rattle.std.proofs.Common.{◌≡◌, ℕ, ◌+◌, ◌<◌, true, ◌∷◌, Option, Some, None, refl, sym, ap, ◌∙◌, subst, eqb-true, eq-eqb}
 use Rattle.std.proofs.lemmas.Bool.{and_from, and_parts, false≢true}
 use Rattle.um_base.specs.declared.act.Act.{Act}
-use Rattle.um_base.specs.declared.ask.Waiter.{Waiter}
-use Rattle.um_base.specs.declared.limits.TheConstants.{ROWS, THREADS}
+use Rattle.um_base.specs.declared.limits.TheConstants.{ROWS}
 use Rattle.um_base.specs.declared.names.Row.{Row}
 use Rattle.um_base.specs.declared.names.ThreadIx.{ThreadIx}
 use Rattle.um_machine.specs.declared.pending.Pending.{Pending}
 use Rattle.um_machine.specs.Order.{to_row, to_thread}
 use Rattle.um_machine.specs.Run.{MayChoose, tends, waits_at}
-use Rattle.um_machine.specs.State.{State, is_started, is_waiting, thread_at, waiters_in}
+use Rattle.um_machine.specs.State.{State, is_started, thread_at, waiters_in}
 use Rattle.um_machine.specs.Table as T
 use Rattle.um_invariants.specs.Armings.{Aim, Arming, is_until, late_cell, late_step, makes_step, timer, waiter}
 use Rattle.um_invariants.specs.InOrder.{Makes, Point}
@@ -23,7 +21,7 @@ use Rattle.um_fine.specs.Asks.{begins_cleaning, by_actor}
 use Rattle.um_fine.specs.Places.{Todo, Todos}
 use Rattle.um_fine.specs.Processor.{actor_or}
 use Rattle.um_fine.specs.Seeking.{deadline_of, is_number, stands_in}
-use Rattle.um_fine.specs.Sites.{SiteState, site_answers, site_numbered}
+use Rattle.um_fine.specs.Sites.{site_answers, site_numbered}
 use Rattle.um_fine.specs.Steps.{Exchange, FineStep, Site}
 use Rattle.um_refinement.specs.Fine.{Fine, clock, scheduler}
 use Rattle.um_refinement.specs.Relation.{Rel}

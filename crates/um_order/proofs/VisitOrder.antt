@@ -32,7 +32,7 @@ use Rattle.um_fine.specs.Steps.{FineStep, Site}
 use Rattle.um_refinement.specs.Cleaning.{AreBlocks}
 use Rattle.um_refinement.specs.Dues.{is_visiting}
 use Rattle.um_refinement.specs.Fine.{Fine, clock, row, scheduler}
-use Rattle.um_refinement.specs.Lists.{adders, has_steps, visited}
+use Rattle.um_refinement.specs.Lists.{adders, visited}
 use Rattle.um_refinement.specs.Offers.{Drops, Fits, Passes}
 use Rattle.um_refinement.specs.Relation.{Rel}
 use Rattle.um_refinement.specs.Threads.{IsOf, cutters as cuts}

@@ -1,8 +1,8 @@
 -- A thread that waits stands in some cell: each step of the machine that takes one out of a cell wakes it, or cuts it.
 use Rattle.std.specs.List.{list_all}
-use Rattle.std.specs.Prelude.{◌==◌, ◌&&◌, ◌||◌, not, if◌then◌else◌, is_some, nat_lt, slice_index_or, slice_set, IsTrue}
-use Rattle.std.proofs.Common.{◌≡◌, ◌≢◌, ◌⊎◌, inl, inr, ℕ, zero, suc, ◌+◌, ◌<◌, ◌≤◌, arith, length, Bool, true, false, List, [], ◌∷◌, ◌++◌, Option, Some, None, refl, sym, ap, ◌∙◌, subst, ne_eqb}
-use Rattle.std.proofs.lemmas.Bool.{and_parts, and_from, eqb-true, eqb-false, false≢true, true≢false, ltb-true, ltb-false, not-true}
+use Rattle.std.specs.Prelude.{◌==◌, ◌&&◌, ◌||◌, not, if◌then◌else◌, is_some, slice_index_or, slice_set}
+use Rattle.std.proofs.Common.{◌≡◌, ◌≢◌, ◌⊎◌, inl, inr, ℕ, zero, suc, ◌<◌, arith, length, Bool, true, false, List, [], ◌∷◌, Some, None, refl, sym, ap, ◌∙◌, subst}
+use Rattle.std.proofs.lemmas.Bool.{and_parts, eqb-true, eqb-false, false≢true, true≢false, not-true}
 use Rattle.std.proofs.lemmas.List.{get_or-set_same, get_or-set_other, length-set}
 use Rattle.um_base.specs.Places.{addr_of}
 use Rattle.um_base.specs.declared.act.Act.{Act}
@@ -10,12 +10,11 @@ use Rattle.um_base.specs.declared.act.Answer.{Answer}
 use Rattle.um_base.specs.declared.ask.Ask.{Ask}
 use Rattle.um_base.specs.declared.ask.Told.{Told}
 use Rattle.um_base.specs.declared.ask.Waiter.{Waiter}
-use Rattle.um_base.specs.declared.limits.TheConstants.{ROWS, THREADS, FUTEX_CELL, JOIN_CELL}
+use Rattle.um_base.specs.declared.limits.TheConstants.{ROWS, FUTEX_CELL, JOIN_CELL}
 use Rattle.um_base.specs.declared.names.Addr.{Addr}
 use Rattle.um_base.specs.declared.names.Errno.{Errno}
 use Rattle.um_base.specs.declared.names.Mode.{Mode}
 use Rattle.um_base.specs.declared.names.Reply.{Reply}
-use Rattle.um_base.specs.declared.names.Row.{Row}
 use Rattle.um_base.specs.declared.names.ThreadIx.{ThreadIx}
 use Rattle.um_machine.specs.Futexes.{futex_answer, futex_woken}
 use Rattle.um_machine.specs.Goes.{Next, went, Change, Way, work_change, gone, asked_way, error_way, work_way}
@@ -33,10 +32,9 @@ use Rattle.um_machine.specs.declared.pending.Pending.{Pending}
 use Rattle.um_machine.specs.declared.thread.Thread.{Thread}
 use Rattle.um_machine.proofs.AfterLemmas.{after-is, bytes-leave}
 use Rattle.um_machine.proofs.EffectLemmas.{effects_of, next_of, OfEach, all-wrote, woken-by, shared-went}
-use Rattle.um_invariants.proofs.Cores.{at_set, core_of, call_is, status_is}
+use Rattle.um_invariants.proofs.Cores.{at_set}
 use Rattle.um_invariants.proofs.ThreadCells.{set-either, both-cells, cell, cell-is, place_of}
 use Rattle.um_invariants.proofs.ThreadWords.{is_beside}
-use Rattle.um_invariants.proofs.Turns.{IsKnown}
 use Rattle.um_fine.specs.Answers.{reserved_in}
 use Rattle.um_refinement.proofs.CallsProper.{AreProper}
 use Rattle.um_refinement.proofs.WaitersFound.{WaitersWait}
@@ -45,7 +43,7 @@ use Rattle.um_order.proofs.CallsMoved.{IsOffered, asks, beside, inner, is_act, o
 use Rattle.um_order.proofs.CutNow.{waited}
 use Rattle.um_refinement.proofs.WaitersKnown.{own-apart}
 use Rattle.um_order.proofs.OneAct.{IsGone, Quiet, gone-left, is_awake, is_inner, quiet-closed}
-use Rattle.um_order.proofs.ServedAll.{Stay, acted-joins, acted-stays, behind-stays, in-last, in-still, in-without, is_told, split-stay, taken-out}
+use Rattle.um_order.proofs.ServedAll.{acted-joins, acted-stays, behind-stays, in-last, in-still, in-without, is_told, split-stay, taken-out}
 use Rattle.um_order.proofs.ThreadsMoved.{IsMoved, own-after}
 
 abbrev pub AllStand : State → Type 0
