@@ -119,21 +119,20 @@ module _ (f : Fine) (at : Point) (e : FineStep) (law : Lawful f at.state e) (one
           follows = subst (λ a. FollowsBy at a to) (sym is.said)
               (inr (inr (inl (record { clean = cleans-none is.own at.last; uncut = is.uncut; thread = is.first; made = is.next; ready = refl; inside = refl; cut = refl; armings = refl; last = refl }))));
           state = refl;
-          stands = begun
-              (
-                record {
-                  runs = is.steps;
-                  calm = is.calm;
-                  last = ap (λ n. Some (to_thread n)) (sym is.thread);
-                  ready = (λ i. ready_after (is.base i) (sym is.thread i) act s2) ∙ line-now act is.runs is.of is.whole is.comes is.nobody;
-                  inside = ap (λ n. if goes_on s2 n then Some (to_thread n) else None) (sym is.thread) ∙ inside-is later s2 now.context is.of is.whole is.told;
-                  shows = is.shows;
-                  ends = is.ends;
-                  told = is.told;
-                  whole = λ h. ap waits (sym (ap (λ (th : Thread). th.pending) (own-is later s2 now.context is.of is.whole))) ∙ h;
-                  alone = is.alone;
-                  armings = is.armings;
-                },
-                is.cuts_none,
-              );
+          stands = begun (
+            record {
+              runs = is.steps;
+              calm = is.calm;
+              last = ap (λ n. Some (to_thread n)) (sym is.thread);
+              ready = (λ i. ready_after (is.base i) (sym is.thread i) act s2) ∙ line-now act is.runs is.of is.whole is.comes is.nobody;
+              inside = ap (λ n. if goes_on s2 n then Some (to_thread n) else None) (sym is.thread) ∙ inside-is later s2 now.context is.of is.whole is.told;
+              shows = is.shows;
+              ends = is.ends;
+              told = is.told;
+              whole = λ h. ap waits (sym (ap (λ (th : Thread). th.pending) (own-is later s2 now.context is.of is.whole))) ∙ h;
+              alone = is.alone;
+              armings = is.armings;
+            },
+            is.cuts_none,
+          );
         }

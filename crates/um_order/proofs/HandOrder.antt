@@ -207,12 +207,11 @@ module _ (f : Fine) (at : Point) (e : FineStep) (law : Lawful f at.state e) (one
           ready = sym (ap (λ (l : List ℕ). at.ready ++ l) (λ i. (ap (λ (z : Scheduler). z.ready) same ∙ was.none) i ++ woken_of (wakers (todo-is i))) ∙ append-nil at.ready);
           inside = was.inside;
           cut = was.cut;
-          armings = inr
-              (
-                subst (λ (c : Clock). Passed m c.marks at.armings) (sym time) (hand-void m was.deadline was.mark (clock f).marks at.armings was.armings none),
-                ap (λ (z : Scheduler). z.ready) same ∙ was.none,
-                ap wakers todo-is,
-              );
+          armings = inr (
+            subst (λ (c : Clock). Passed m c.marks at.armings) (sym time) (hand-void m was.deadline was.mark (clock f).marks at.armings was.armings none),
+            ap (λ (z : Scheduler). z.ready) same ∙ was.none,
+            ap wakers todo-is,
+          );
         }
       where
         is : e.act ≡ FineAct.Unseen Unseen.Void

@@ -318,24 +318,23 @@ module _ (f : Fine) (at : Point) (e : FineStep) (law : Lawful f at.state e) wher
                   leaves = refl;
                 })));
             state = refl;
-            stands = begun
-                (
-                  subst (λ (l : Todos). Turns now l [] (scheduler later) (clock later).marks to) (sym list)
-                      (record {
-                        runs = refl;
-                        calm = was.turn.calm;
-                        last = was.turn.last ∙ ap (λ (c : Context). Some (to_thread c.thread)) (sym context);
-                        ready = ap (λ l. with_readied l (Act.Cut (to_thread was.who)) s2) line
-                            ∙ (joins-new s.ready was.who unready
-                            ∙ λ i. (sym (elsewhere (Todo.look was.who was.site was.before) was.todo was.list refl) i).ready ++ ((woken_of (sym was.bare.0 i) ++ (was.who ∷ (sym was.bare.1 i ++ map (λ (d : Context). d.thread) (sym was.bare.2 i)))) ++ (sym none-back ∙ ap back (sym context)) i));
-                        inside = was.turn.inside ∙ ap inside_of (sym context);
-                        shows = λ rests. was.turn.shows (ap (λ (c : Context). is_empty c.pending) (sym context) ∙ rests);
-                        ends = λ done. ap (λ (c : Context). c.ended) context ∙ was.turn.ends done;
-                        told = λ k. absurd (true≢false (sym k ∙ awake));
-                        whole = λ k. absurd (true≢false (sym k ∙ awake));
-                        alone = (λ some. was.bare.0, λ some. absurd (true≢false (ap is_empty (sym was.bare.2) ∙ some)));
-                        armings = subst (λ (c : Clock). Plain c.marks at.armings) (sym (clock-same f m e law (Todo.look was.who was.site was.before) was.todo was.list refl)) was.turn.armings;
-                      }),
-                  refl,
-                );
+            stands = begun (
+              subst (λ (l : Todos). Turns now l [] (scheduler later) (clock later).marks to) (sym list)
+                  (record {
+                    runs = refl;
+                    calm = was.turn.calm;
+                    last = was.turn.last ∙ ap (λ (c : Context). Some (to_thread c.thread)) (sym context);
+                    ready = ap (λ l. with_readied l (Act.Cut (to_thread was.who)) s2) line
+                        ∙ (joins-new s.ready was.who unready
+                        ∙ λ i. (sym (elsewhere (Todo.look was.who was.site was.before) was.todo was.list refl) i).ready ++ ((woken_of (sym was.bare.0 i) ++ (was.who ∷ (sym was.bare.1 i ++ map (λ (d : Context). d.thread) (sym was.bare.2 i)))) ++ (sym none-back ∙ ap back (sym context)) i));
+                    inside = was.turn.inside ∙ ap inside_of (sym context);
+                    shows = λ rests. was.turn.shows (ap (λ (c : Context). is_empty c.pending) (sym context) ∙ rests);
+                    ends = λ done. ap (λ (c : Context). c.ended) context ∙ was.turn.ends done;
+                    told = λ k. absurd (true≢false (sym k ∙ awake));
+                    whole = λ k. absurd (true≢false (sym k ∙ awake));
+                    alone = (λ some. was.bare.0, λ some. absurd (true≢false (ap is_empty (sym was.bare.2) ∙ some)));
+                    armings = subst (λ (c : Clock). Plain c.marks at.armings) (sym (clock-same f m e law (Todo.look was.who was.site was.before) was.todo was.list refl)) was.turn.armings;
+                  }),
+              refl,
+            );
           }

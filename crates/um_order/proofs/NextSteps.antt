@@ -108,17 +108,16 @@ module _ (m : State) (t : ℕ) where
       → IsNextStep m t Pending.Left 0
   left-is a rest e ending own joined =
       inr
-      (inr
-      (
+      (inr (
         refl,
         refl,
         ending,
         (λ step first x may.
-        let taken = subst (λ p. MayTake m t p x) (same-some step (Pending.ClearInit a) (sym first ∙ first-is (Pending.ClearInit a) rest e)) may in
-        false≢true (sym (λ i. not (own i && joined i)) ∙ taken.0)),
+            let taken = subst (λ p. MayTake m t p x) (same-some step (Pending.ClearInit a) (sym first ∙ first-is (Pending.ClearInit a) rest e)) may in
+            false≢true (sym (λ i. not (own i && joined i)) ∙ taken.0)),
         (λ step second x may.
-        let none : second_step m t ≡ None = ap (λ steps. if is_skipped (slice_get steps 0) && none_due (thread_at m t) then slice_get steps 1 else None) e in
-        false≢true (ap is_some (sym none ∙ second))),
+            let none : second_step m t ≡ None = ap (λ steps. if is_skipped (slice_get steps 0) && none_due (thread_at m t) then slice_get steps 1 else None) e in
+            false≢true (ap is_some (sym none ∙ second))),
       ))
 
   -- also where the drops of the end are left, and none of them is due
@@ -126,15 +125,14 @@ module _ (m : State) (t : ℕ) where
       → IsTrue (is_ending (thread_at m t)) → (T.row_of m a == own_row m.image t) ≡ true → is_joined m t ≡ true → IsNextStep m t Pending.Left 0
   left-behind from a rest e full due ending own joined =
       inr
-      (inr
-      (
+      (inr (
         refl,
         refl,
         ending,
         no-first (Pending.Drops from) (Pending.ClearInit a) rest e (drops-none from (Pending.ClearInit a ∷ rest) e full due),
         (λ step second x may.
-        let taken = subst (λ p. MayTake m t p x) (same-some step (Pending.ClearInit a) (sym second ∙ second-is (Pending.Drops from) (Pending.ClearInit a) rest e refl due)) may in
-        false≢true (sym (λ i. not (own i && joined i)) ∙ taken.0)),
+            let taken = subst (λ p. MayTake m t p x) (same-some step (Pending.ClearInit a) (sym second ∙ second-is (Pending.Drops from) (Pending.ClearInit a) rest e refl due)) may in
+            false≢true (sym (λ i. not (own i && joined i)) ∙ taken.0)),
       ))
 
   -- the steps that choose a row or an answer

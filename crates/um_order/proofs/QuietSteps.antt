@@ -393,8 +393,7 @@ module _ (f : Fine) (at : Point) (e : FineStep) (law : Lawful f at.state e) (one
 
     wakes : (who : ℕ) (told : Told) (todo : Todos) → p.todo ≡ Todo.wake who told ∷ todo → Begun now (scheduler later) (clock later).marks at
     wakes who told todo list =
-        ordinary (Todo.wake who told) todo list refl refl refl refl (plain-calm f.image p e (Todo.wake who told) todo list refl (calm-behind (Todo.wake who told) todo list))
-        (
+        ordinary (Todo.wake who told) todo list refl refl refl refl (plain-calm f.image p e (Todo.wake who told) todo list refl (calm-behind (Todo.wake who told) todo list)) (
           λ some. absurd (cons-not (ap wakers (sym list) ∙ turn.alone.0 (ap (λ z. is_empty (cutters z)) list ∙ (ap is_empty (sym (plain-cutters f.image p e (Todo.wake who told) todo list refl)) ∙ some)))),
           λ some. absurd (cons-not (ap wakers (sym list) ∙ (turn.alone.1 (ap (λ z. is_empty (adders z)) list ∙ (ap is_empty (sym (added (Todo.wake who told) todo list refl)) ∙ some))).0)),
         )

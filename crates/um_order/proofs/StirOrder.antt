@@ -169,8 +169,18 @@ module _ (f : Fine) (at : Point) (e : FineStep) (law : Lawful f at.state e) (one
           point = to;
           follows = follows;
           state = refl;
-          stands = looks (record { who = who.0; site = site; before = before; todo = left; list = list; turn = turn [] (ready ∙ sym (append-nil (scheduler later).ready));
-            bare = (steps-woken f.image now.context, cuts-expands f.image [] now.context tt refl, filled-adders f.image now.context []); goes_then = is.goes_then; clear = λ x. next-clear f.image x now.context now.context.pending; cut = cut });
+          stands = looks (record {
+            who = who.0;
+            site = site;
+            before = before;
+            todo = left;
+            list = list;
+            turn = turn [] (ready ∙ sym (append-nil (scheduler later).ready));
+            bare = (steps-woken f.image now.context, cuts-expands f.image [] now.context tt refl, filled-adders f.image now.context []);
+            goes_then = is.goes_then;
+            clear = λ x. next-clear f.image x now.context now.context.pending;
+            cut = cut;
+          });
         }
 
     -- it has stopped itself

@@ -86,8 +86,8 @@ module _ (s : State) (t x v : ℕ) (q : Pending) where
   told-so : (z : State) (u : ℕ) (told : _) → Reads z → Reads (with_thread z u (record (thread_at z u) { told = Some told }))
   told-so z u told r =
       set z u (record (thread_at z u) { told = Some told }) (
-        λ same is. let me = subst (λ n. Is (thread_at z n)) (sym same) is in
-            record { pending = me.pending; aborted = me.aborted; aborts = me.aborts; doomed = me.doomed; dooms = me.dooms; told = λ none. absurd (true≢false (ap is_some none)) }
+      λ same is. let me = subst (λ n. Is (thread_at z n)) (sym same) is in
+      record { pending = me.pending; aborted = me.aborted; aborts = me.aborts; doomed = me.doomed; dooms = me.dooms; told = λ none. absurd (true≢false (ap is_some none)) }
       ) r
 
   dues : (y i : ℕ) (holders : List Bool) (xs : List Thread) (u : ℕ) → Is (slice_index_or xs u nobody) → Is (slice_index_or (T.with_dues y i holders xs) u nobody)
@@ -99,39 +99,39 @@ module _ (s : State) (t x v : ℕ) (q : Pending) where
   keeps (Effect.wakes woken) z f r = woken-by Reads told-so woken z r
   keeps (Effect.moves who d) z f r =
       set z who (record (thread_at z who) { domain = d }) (
-        λ same is. let me = subst (λ n. Is (thread_at z n)) (sym same) is in
-            record { pending = me.pending; aborted = me.aborted; aborts = me.aborts; doomed = me.doomed; dooms = me.dooms; told = me.told }
+      λ same is. let me = subst (λ n. Is (thread_at z n)) (sym same) is in
+      record { pending = me.pending; aborted = me.aborted; aborts = me.aborts; doomed = me.doomed; dooms = me.dooms; told = me.told }
       ) r
   keeps (Effect.dooms who) z f r =
       set z who (record (thread_at z who) { doomed = true }) (
-        λ same is. let me = subst (λ n. Is (thread_at z n)) (sym same) is in
-            record { pending = me.pending; aborted = me.aborted; aborts = me.aborts; doomed = λ h. inr (f same); dooms = λ h. refl; told = me.told }
+      λ same is. let me = subst (λ n. Is (thread_at z n)) (sym same) is in
+      record { pending = me.pending; aborted = me.aborted; aborts = me.aborts; doomed = λ h. inr (f same); dooms = λ h. refl; told = me.told }
       ) r
   keeps (Effect.flags who Flag.aborted) z f r =
       set z who (flagged Flag.aborted (thread_at z who)) (
-        λ same is. let me = subst (λ n. Is (thread_at z n)) (sym same) is in
-            record { pending = me.pending; aborted = λ h. inr (f same); aborts = λ h. inl refl; doomed = me.doomed; dooms = me.dooms; told = me.told }
+      λ same is. let me = subst (λ n. Is (thread_at z n)) (sym same) is in
+      record { pending = me.pending; aborted = λ h. inr (f same); aborts = λ h. inl refl; doomed = me.doomed; dooms = me.dooms; told = me.told }
       ) r
   keeps (Effect.flags who (Flag.suspended on)) z f r =
       set z who (flagged (Flag.suspended on) (thread_at z who)) (
-        λ same is. let me = subst (λ n. Is (thread_at z n)) (sym same) is in
-            record { pending = me.pending; aborted = me.aborted; aborts = me.aborts; doomed = me.doomed; dooms = me.dooms; told = me.told }
+      λ same is. let me = subst (λ n. Is (thread_at z n)) (sym same) is in
+      record { pending = me.pending; aborted = me.aborted; aborts = me.aborts; doomed = me.doomed; dooms = me.dooms; told = me.told }
       ) r
   keeps (Effect.cuts who) z f r =
       set z who (cut (thread_at z who)) (
-        λ same is. let me = subst (λ n. Is (thread_at z n)) (sym same) is in
-            record { pending = inr (refl, f same); aborted = me.aborted; aborts = me.aborts; doomed = me.doomed; dooms = me.dooms; told = λ none. inr refl }
+      λ same is. let me = subst (λ n. Is (thread_at z n)) (sym same) is in
+      record { pending = inr (refl, f same); aborted = me.aborted; aborts = me.aborts; doomed = me.doomed; dooms = me.dooms; told = λ none. inr refl }
       ) r
   keeps (Effect.starts who thread) z f r =
       set z who thread (
-        λ same is. record {
-            pending = inr (subst IsShort (sym f.0) tt, f.3);
-            aborted = λ h. absurd (true≢false (sym h ∙ f.1));
-            aborts = λ h. inr f.3;
-            doomed = λ h. inl (ap (λ n. (thread_at s n).doomed) (sym same) ∙ (sym f.2 ∙ h));
-            dooms = λ h. f.2 ∙ (ap (λ n. (thread_at s n).doomed) same ∙ h);
-            told = λ none. inr (subst IsShort (sym f.0) tt);
-          }
+      λ same is. record {
+        pending = inr (subst IsShort (sym f.0) tt, f.3);
+        aborted = λ h. absurd (true≢false (sym h ∙ f.1));
+        aborts = λ h. inr f.3;
+        doomed = λ h. inl (ap (λ n. (thread_at s n).doomed) (sym same) ∙ (sym f.2 ∙ h));
+        dooms = λ h. f.2 ∙ (ap (λ n. (thread_at s n).doomed) same ∙ h);
+        told = λ none. inr (subst IsShort (sym f.0) tt);
+      }
       ) r
   keeps (Effect.pair who y there) z f r = dues y 0 (slice_index_or (with_pair z who y there).pairs y []) z.threads v r
   keeps (Effect.bytes a bs) z f r = subst Is (sym (bytes-leave (λ (z : State). thread_at z v) (λ z b. refl) (λ z b. refl) z a bs)) r
