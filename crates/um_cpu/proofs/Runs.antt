@@ -32,7 +32,7 @@ pub runs-known : (image : Image) → IsDescribed image → CanRun image 8
     → ((image : Image) (cpus : ℕ) (steps : List FineStep) → IsDescribed image → cpus ≤ MOST_CPUS → IsFineRun image cpus steps → length steps ≤ weight image)
     → ((image : Image) (cpus : ℕ) (steps : List FineStep) → IsDescribed image → IsFineRun image cpus steps → (last : State) × Runs (opening image) (shown steps) last × Rel (left_by image cpus steps) last)
     → ((image : Image) (cpus : ℕ) (steps : List FineStep) → IsDescribed image → CanRun image cpus → IsFineRun image cpus steps → CanCount (left_by image cpus steps) → (k : ℕ) → IsHalted (left_by image cpus steps) k
-      → WaitsFor (left_by image cpus steps) k)
+    → WaitsFor (left_by image cpus steps) k)
     → ((image : Image) (events : List Event) (s : State) → IsLawful image → length image.objects ≤ STATIC_ROWS → IsRun image events s → length s.armed ≤ weight image)
     → RunsKnown image
 runs-known image described can longest run waits deadlines =

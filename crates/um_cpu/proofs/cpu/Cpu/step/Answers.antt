@@ -86,10 +86,9 @@ returns-then-tend-clause-told c =
     let ready = subst (λ (w : CellWord). w.ready ≤ 0) value c.if-says-gt0.false in
     let owed = subst (λ (w : CellWord). 0 < w.owed) value c.if-says-gt0-2.true in
     let runs = runs-known image c.requires.described c.requires.can c.longest_fine_run.ensures c.every_fine_run.ensures.run c.every_fine_run.ensures.waits c.every_deadline.ensures in
-    let waited = c.tend.ensures.waited c.if-tend.true in
-    (
+    let waited = c.tend.ensures.waited c.if-tend.true in (
       rested image runs c.args.self.now c.requires.place c.requires.stands looked.new.self looked.result (c.is_idle.ensures.idle c.if-not-is_idle.false) looked.ensures.unnoted looked.ensures.got
-      looked.ensures.newest looked.ensures.saw (omega (arith, ready)) (whole new.processor) new.place.seat new.place.log.items waited.0 waited.1 (λ some. waited.2),
+          looked.ensures.newest looked.ensures.saw (omega (arith, ready)) (whole new.processor) new.place.seat new.place.log.items waited.0 waited.1 (λ some. waited.2),
       λ none. let zero = none.1 in absurd (omega (arith, zero, owed)),
     )
 
@@ -139,10 +138,9 @@ returns-then-says-gt0-3-clause-told c =
     let ready = subst (λ (w : CellWord). w.ready ≤ 0) value c.if-says-gt0.false in
     let owed = subst (λ (w : CellWord). w.owed ≤ 0) value c.if-says-gt0-2.false in
     let running = subst (λ (w : CellWord). 0 < w.running) value c.if-says-gt0-3.true in
-    let runs = runs-known image c.requires.described c.requires.can c.longest_fine_run.ensures c.every_fine_run.ensures.run c.every_fine_run.ensures.waits c.every_deadline.ensures in
-    (
+    let runs = runs-known image c.requires.described c.requires.can c.longest_fine_run.ensures c.every_fine_run.ensures.run c.every_fine_run.ensures.waits c.every_deadline.ensures in (
       rested image runs old c.requires.place c.requires.stands seen looked.result (c.is_idle.ensures.idle c.if-not-is_idle.false) looked.ensures.unnoted looked.ensures.got
-      looked.ensures.newest looked.ensures.saw (omega (arith, ready)) (whole old.processor) seen.seat seen.log.items refl (unnoted-same seen.seat seen.log.items) (λ some. absurd (omega (arith, some, owed))),
+          looked.ensures.newest looked.ensures.saw (omega (arith, ready)) (whole old.processor) seen.seat seen.log.items refl (unnoted-same seen.seat seen.log.items) (λ some. absurd (omega (arith, some, owed))),
       λ none. let zero = none.0 in absurd (omega (arith, zero, running)),
     )
 
@@ -170,9 +168,8 @@ returns-clause-told c =
     let ready = subst (λ (w : CellWord). w.ready ≤ 0) value c.if-says-gt0.false in
     let owed = subst (λ (w : CellWord). w.owed ≤ 0) value c.if-says-gt0-2.false in
     let running = subst (λ (w : CellWord). w.running ≤ 0) value c.if-says-gt0-3.false in
-    let runs = runs-known image c.requires.described c.requires.can c.longest_fine_run.ensures c.every_fine_run.ensures.run c.every_fine_run.ensures.waits c.every_deadline.ensures in
-    (
+    let runs = runs-known image c.requires.described c.requires.can c.longest_fine_run.ensures c.every_fine_run.ensures.run c.every_fine_run.ensures.waits c.every_deadline.ensures in (
       rested image runs old c.requires.place c.requires.stands seen looked.result (c.is_idle.ensures.idle c.if-not-is_idle.false) looked.ensures.unnoted looked.ensures.got
-      looked.ensures.newest looked.ensures.saw (omega (arith, ready)) (whole old.processor) seen.seat seen.log.items refl (unnoted-same seen.seat seen.log.items) (λ some. absurd (omega (arith, some, owed))),
+          looked.ensures.newest looked.ensures.saw (omega (arith, ready)) (whole old.processor) seen.seat seen.log.items refl (unnoted-same seen.seat seen.log.items) (λ some. absurd (omega (arith, some, owed))),
       (omega (arith, running), omega (arith, owed)),
     )
