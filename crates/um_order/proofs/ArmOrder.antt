@@ -46,7 +46,8 @@ use Rattle.um_refinement.proofs.Offered.{IsStep, IsStopping, Shows, act-is, by-m
 use Rattle.um_refinement.proofs.WordsKept.{IsShown}
 use Rattle.um_order.proofs.ArmingOrder.{IsAim, Plain, arms-plain}
 use Rattle.um_order.proofs.EventLines.{own-is}
-use Rattle.um_order.proofs.ShowSteps.{context, of, stirs, thread, uncut}
+use Rattle.um_order.proofs.ShowSteps.{context, of, thread, uncut}
+use Rattle.um_order.proofs.ShownLists.{stirs}
 
 -- a mark and an aim are for the same
 cell-is : (x : ℕ) → x < ROWS → 168 + x ≡ cell_site x

@@ -33,7 +33,7 @@ use Rattle.um_refinement.proofs.StepReads.{is-behind}
 use Rattle.um_refinement.proofs.Taking.{Idles, idles, takes, tends}
 use Rattle.um_machine.proofs.EffectLemmas.{woken-by}
 use Rattle.um_invariants.proofs.Cores.{at_set}
-use Rattle.um_order.proofs.FullKept.{same-full}
+use Rattle.um_order.proofs.FullFacts.{same-full}
 use Rattle.um_order.proofs.Standing.{IsFull}
 
 module _ (t : ℕ) (steps : Steps) where

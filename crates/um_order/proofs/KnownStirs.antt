@@ -23,7 +23,7 @@ use Rattle.um_order.proofs.CallsKept.{AllDoomed, AreCalls, AtMostOne, IsBack, Is
 use Rattle.um_order.proofs.CallsMoved.{IsOffered, asks, beside, inner, is_stirring, offered-is, resumes, rises}
 use Rattle.um_order.proofs.OneAct.{IsCall, IsSettled, Quiet, is_inner}
 use Rattle.um_order.proofs.OneStep.{stirred}
-use Rattle.um_order.proofs.ShowSteps.{stirs}
+use Rattle.um_order.proofs.ShownLists.{stirs}
 use Rattle.um_order.proofs.Standing.{goes}
 use Rattle.um_order.proofs.ThreadsMoved.{DoomsIt, flags-left}
 

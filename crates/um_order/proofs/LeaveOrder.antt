@@ -66,7 +66,7 @@ use Rattle.um_order.proofs.Follow.{Followed, follow, here}
 use Rattle.um_order.proofs.ListCalm.{next-calm, next-cutters}
 use Rattle.um_order.proofs.ListShapes.{is_own, next-ends}
 use Rattle.um_order.proofs.NextSteps.{left-behind, left-is}
-use Rattle.um_order.proofs.ShowSteps.{goes-offered, goes-some, told-numbers, wakes-so}
+use Rattle.um_order.proofs.ShownLists.{goes-offered, goes-some, told-numbers, wakes-so}
 use Rattle.um_order.proofs.Standing.{Begun, IsFull, back, comers, cutters, goes, inside_of, is_calm, is_show, woken_of}
 
 pub goes-awake : (steps : Steps) → goes steps ≡ true → waits steps ≡ false

@@ -26,6 +26,7 @@ mod QuietSteps
 mod EventLines
 mod NextSteps
 mod Follow
+mod ShownLists
 mod ShowSteps
 mod ArmOrder
 mod LeaveOrder
@@ -44,6 +45,7 @@ mod HandOrder
 mod TimedOutOrder
 mod Reserves
 mod Settled
+mod FullFacts
 mod FullKept
 mod BesideFull
 mod OneStep

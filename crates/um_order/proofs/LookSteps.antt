@@ -52,7 +52,7 @@ use Rattle.um_order.proofs.EventLines.{own-is}
 use Rattle.um_order.proofs.Follow.{Followed, FollowsBy, cleans-none-by, only}
 use Rattle.um_order.proofs.LeaveOrder.{goes-awake}
 use Rattle.um_order.proofs.ReadyLines.{joins-new}
-use Rattle.um_order.proofs.ShowSteps.{goes-some}
+use Rattle.um_order.proofs.ShownLists.{goes-some}
 use Rattle.um_order.proofs.Standing.{Begun, ComeAlone, Looks, Rouses, Turns, back, begun, comers, inside_of, is_calm, is_show, woken_of}
 
 pub filled-same : (image : Image) (c : Context) (todo : Todos) → has_steps todo ≡ true → filled_up image c todo ≡ todo

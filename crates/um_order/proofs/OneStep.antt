@@ -66,7 +66,8 @@ use Rattle.um_order.proofs.NotedBusy.{abort-busy}
 use Rattle.um_order.proofs.QuietSteps.{quiet-begun}
 use Rattle.um_order.proofs.Reserves.{chooses-least}
 use Rattle.um_order.proofs.Settled.{idle-settled}
-use Rattle.um_order.proofs.ShowSteps.{shown-begun, shown-opens, stirs}
+use Rattle.um_order.proofs.ShowSteps.{shown-begun, shown-opens}
+use Rattle.um_order.proofs.ShownLists.{stirs}
 use Rattle.um_order.proofs.Standing.{Begun, Holds, Idles, IsAway, IsFull, Looks, Opens, Pays, PutsAway, Stands, away, begun, gives_up, goes, holds, idles, is_calm, is_show, looks, looks_again, opens, pays, puts_to_sleep, rouses}
 use Rattle.um_order.proofs.StopOrder.{continue-follows, continues-itself}
 use Rattle.um_order.proofs.TakeSteps.{away-on, idle-on, opens-on}

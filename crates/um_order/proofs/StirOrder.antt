@@ -36,7 +36,7 @@ use Rattle.um_order.proofs.Follow.{Followed, FollowsBy, cleans-none}
 use Rattle.um_order.proofs.LeaveOrder.{goes-awake}
 use Rattle.um_order.proofs.ListCalm.{calm-expands, cuts-expands}
 use Rattle.um_order.proofs.ListShapes.{is_own, next-clear}
-use Rattle.um_order.proofs.ShowSteps.{goes-some}
+use Rattle.um_order.proofs.ShownLists.{goes-some}
 use Rattle.um_order.proofs.Standing.{Turns, back, begun, comers, cutters, goes, looks, rouses, woken_of}
 
 -- the fresh steps of a thread

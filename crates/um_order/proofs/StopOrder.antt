@@ -56,7 +56,7 @@ use Rattle.um_order.proofs.Follow.{Followed, here}
 use Rattle.um_order.proofs.ListShapes.{is_own}
 use Rattle.um_order.proofs.NextSteps.{leads, next-is}
 use Rattle.um_order.proofs.RousedLines.{roused-line}
-use Rattle.um_order.proofs.ShowSteps.{goes-offered, goes-some}
+use Rattle.um_order.proofs.ShownLists.{goes-offered, goes-some}
 use Rattle.um_order.proofs.Standing.{Begun, IsFull, back, comers, goes, is_show}
 use Rattle.um_order.proofs.StirOrder.{IsStir, line, not-rests, to-rouses}
 

@@ -38,7 +38,7 @@ use Rattle.um_refinement.proofs.CellSites.{site-of-cell}
 use Rattle.um_order.proofs.ArmingOrder.{IsAim, IsArmed}
 use Rattle.um_order.proofs.Follow.{Followed}
 use Rattle.um_order.proofs.HandOrder.{hold-follows}
-use Rattle.um_order.proofs.ShowSteps.{told-numbers}
+use Rattle.um_order.proofs.ShownLists.{told-numbers}
 use Rattle.um_order.proofs.Standing.{Holds, woken_of}
 use Rattle.um_refinement.proofs.ListWakes.{named}
 use Rattle.um_fine.specs.Follows.{told_marked}
