@@ -54,7 +54,7 @@ use Rattle.um_order.proofs.ArmingOrder.{Plain}
 use Rattle.um_order.proofs.Follow.{FollowsBy}
 use Rattle.um_order.proofs.ListCalm.{is_plain, plain-calm, plain-cutters}
 use Rattle.um_order.proofs.ListShapes.{next-ends, next-shows}
-use Rattle.um_order.proofs.QuietSteps.{come-alone, or-later}
+use Rattle.um_order.proofs.ParkedThreads.{come-alone, or-later}
 use Rattle.um_order.proofs.Standing.{Begun, back, comers, cutters, inside_of, is_calm, is_show, woken_of}
 use Rattle.um_refinement.proofs.AwayPart.{none-left}
 

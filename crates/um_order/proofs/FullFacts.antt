@@ -1,9 +1,8 @@
 -- What a thread has still to pass on or to drop is due: behind each way to go on, and after each change of a permission.
-use Rattle.std.proofs.Common.{Bool, List, None, Option, Some, [], ap, arith, false, length, map, refl, subst, suc, sym, true, zero, ℕ, ◌+◌, ◌<◌, ◌∙◌, ◌∷◌, ◌≡◌, ◌≢◌, ◌≤◌, inl, inr}
-use Rattle.std.proofs.lemmas.Bool.{eqb-false, eqb-true, false≢true, true≢false, not-true}
+use Rattle.std.proofs.Common.{Bool, List, None, Option, Some, [], ap, arith, false, length, map, refl, subst, suc, sym, true, zero, ℕ, ◌+◌, ◌<◌, ◌∙◌, ◌∷◌, ◌≡◌, ◌≢◌, ◌≤◌}
+use Rattle.std.proofs.lemmas.Bool.{eqb-false, eqb-true, false≢true, true≢false}
 use Rattle.std.proofs.lemmas.List.{get_or-set_other, get_or-set_same}
-use Rattle.std.specs.Prelude.{if◌then◌else◌, nat_lt, not, slice_index_or, slice_set, ◌&&◌, ◌==◌, ◌||◌}
-use Rattle.um_base.specs.Lawful.{IsLawful}
+use Rattle.std.specs.Prelude.{if◌then◌else◌, nat_lt, not, slice_index_or, slice_set, ◌&&◌, ◌==◌}
 use Rattle.um_base.specs.Places.{own_row}
 use Rattle.um_base.specs.declared.act.Act.{Act}
 use Rattle.um_base.specs.declared.act.Leftover.{Leftover}
@@ -14,57 +13,25 @@ use Rattle.um_base.specs.declared.names.Policy.{Policy}
 use Rattle.um_base.specs.declared.names.ThreadIx.{ThreadIx}
 use Rattle.um_machine.proofs.EffectLemmas.{effects_of}
 use Rattle.um_machine.specs.Goes.{Next, at_end, gone, went, told_way}
-use Rattle.um_machine.specs.Order.{Steps, end_steps, fatal_steps, steps_of, to_thread}
-use Rattle.um_machine.specs.Run.{MayChoose, MayClean, Offers}
+use Rattle.um_machine.specs.Order.{Steps, end_steps, fatal_steps, steps_of}
 use Rattle.um_machine.specs.State.{State, nobody, pair_at, thread_at, with_pair, with_thread}
-use Rattle.um_machine.specs.Writes.{Edit, Effect, drops as drop_writes, effect, only, was_given, wrote}
+use Rattle.um_machine.specs.Writes.{Effect, drops as drop_writes, only, was_given, wrote}
 use Rattle.um_machine.specs.declared.pending.Pending.{Pending}
 use Rattle.um_machine.specs.declared.thread.Thread.{Thread}
-use Rattle.um_invariants.proofs.Claims.{claims as claims_child}
-use Rattle.um_invariants.proofs.Cores.{Call, call_is}
 use Rattle.um_invariants.proofs.ThreadSteps.{plain-steps}
-use Rattle.um_invariants.proofs.ThreadWords.{AreKept, are_plain}
-use Rattle.um_invariants.specs.InOrder.{Point}
-use Rattle.um_words.specs.declared.fine.FineAct.{FineAct}
-use Rattle.um_fine.specs.Answers.{act_in, thread_in}
-use Rattle.um_fine.specs.Asks.{begins_cleaning, says_turn}
+use Rattle.um_invariants.proofs.ThreadWords.{are_plain}
 use Rattle.um_fine.specs.Context.{Context, as_thread}
-use Rattle.um_fine.specs.Continues.{came_in, continues, gone_part, resumed, resumed_at}
-use Rattle.um_fine.specs.Follows.{after_show, after_take, dropped_at, shown_step}
-use Rattle.um_fine.specs.Places.{Todo, Todos, put_away}
-use Rattle.um_fine.specs.Scheduler.{is_cut, takes_turn, to_kill, waits}
-use Rattle.um_fine.specs.Steps.{Exchange, FineStep}
+use Rattle.um_fine.specs.Continues.{came_in, continues, gone_part, resumed_at}
+use Rattle.um_fine.specs.Scheduler.{waits}
+use Rattle.um_fine.specs.Steps.{Exchange}
 use Rattle.um_refinement.proofs.ChildSteps.{Creates, InOrder, order-steps}
-use Rattle.um_refinement.proofs.ChildrenKnown.{AllCreate, Stands, offered-stands}
-use Rattle.um_refinement.proofs.ClaimRoom.{child-claims}
-use Rattle.um_refinement.proofs.CleanSteps.{Calls, OwnRows}
-use Rattle.um_refinement.proofs.ContextsPart.{is_shown, now-context, quiet-context, ran, take-context}
-use Rattle.um_refinement.proofs.Continued.{continues-thread}
-use Rattle.um_refinement.proofs.DuesFilled.{child-below, created, offers-plain, resumes-plain, still-steps, way-still}
-use Rattle.um_refinement.proofs.Erased.{around}
-use Rattle.um_refinement.proofs.IdleComplete.{one-holds}
-use Rattle.um_refinement.proofs.Leaves.{Beside, HasStep, Lawful, Leaves, beside, cleans, drops, event, nothing, passes, recycles, resumes}
-use Rattle.um_refinement.proofs.ListGrowth.{is_end}
-use Rattle.um_refinement.proofs.ListRuns.{ends-rests, takes-none}
-use Rattle.um_refinement.proofs.Offered.{Shows, by-made, own-unless, runs-first, shown-offers, shows-runs}
-use Rattle.um_refinement.proofs.Taking.{Idles as Takes, IsTaken, idles as idles-by, taken-parked, taken-uncut, takes, tends}
-use Rattle.um_refinement.proofs.Reachable.{sound-held}
-use Rattle.um_refinement.proofs.SchedulerSteps.{made-says}
-use Rattle.um_refinement.proofs.StepsLeft.{is_first, steps-on}
+use Rattle.um_refinement.proofs.ChildrenKnown.{AllCreate, Stands}
+use Rattle.um_refinement.proofs.DuesFilled.{created, still-steps, way-still}
 use Rattle.um_refinement.proofs.ThreadLists.{at-here, dues-long}
-use Rattle.um_refinement.proofs.VisitSteps.{Visits, visit-part, visit-runs}
 use Rattle.um_refinement.proofs.WordsKept.{IsShown}
 use Rattle.um_refinement.specs.Dues.{is_visiting}
-use Rattle.um_refinement.specs.Fine.{Fine, scheduler}
-use Rattle.um_refinement.specs.Lists.{has_steps, runs, times, visited}
-use Rattle.um_refinement.specs.Offers.{IsPutBack, is_over}
-use Rattle.um_refinement.specs.Threads.{IsOf, IsRun}
-use Rattle.um_order.proofs.EventLines.{own-is}
-use Rattle.um_order.proofs.QuietSteps.{over-rests}
 use Rattle.um_order.proofs.Standing.{IsFull}
 use Rattle.um_machine.specs.Table as T
-use Rattle.um_machine.specs.Objects as Plain
-use Rattle.um_order.proofs.CleanOrder.{may-clean}
 
 -- These steps don't begin with permissions to pass on or to drop.
 

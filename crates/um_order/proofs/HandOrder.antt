@@ -51,7 +51,7 @@ use Rattle.um_order.proofs.EventLines.{below-woken, occurs-woken}
 use Rattle.um_order.proofs.Follow.{Followed, FollowsBy, cleans-none, here}
 use Rattle.um_order.proofs.ListShapes.{is_own}
 use Rattle.um_order.proofs.LookSteps.{filled-same}
-use Rattle.um_order.proofs.QuietSteps.{lies-parked, not-added, not-asleep, own-waits, waits-left}
+use Rattle.um_order.proofs.ParkedThreads.{lies-parked, not-added, not-asleep, own-waits, waits-left}
 use Rattle.um_order.proofs.ReadyLines.{all-join-new}
 use Rattle.um_order.proofs.Standing.{Holds, Idles, Pays, pays, woken_of}
 use Rattle.um_order.proofs.TickOrder.{none-next}

@@ -22,7 +22,7 @@ use Rattle.um_refinement.proofs.Offered.{Shows, shown-offers, own-part}
 use Rattle.um_order.proofs.CallsKept.{AllDoomed, AreCalls, AtMostOne, IsBack, IsDooming, back-settled}
 use Rattle.um_order.proofs.CallsMoved.{IsOffered, asks, beside, inner, is_stirring, offered-is, resumes, rises}
 use Rattle.um_order.proofs.OneAct.{IsCall, IsSettled, Quiet, is_inner}
-use Rattle.um_order.proofs.OneStep.{stirred}
+use Rattle.um_order.proofs.OneKnown.{stirred}
 use Rattle.um_order.proofs.ShownLists.{stirs}
 use Rattle.um_order.proofs.Standing.{goes}
 use Rattle.um_order.proofs.ThreadsMoved.{DoomsIt, flags-left}

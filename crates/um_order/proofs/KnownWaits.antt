@@ -56,7 +56,7 @@ use Rattle.um_order.proofs.ArmingOrder.{IsAim, IsArmed}
 use Rattle.um_order.proofs.CutNow.{CutsNext}
 use Rattle.um_order.proofs.MarksNow.{AreAhead, IsAhead, is_ahead}
 use Rattle.um_order.proofs.NotedBusy.{word-there}
-use Rattle.um_order.proofs.QuietSteps.{one-part}
+use Rattle.um_order.proofs.ParkedThreads.{one-part}
 use Rattle.um_order.proofs.ReadsWord.{ReadsWaiting, is_reading}
 use Rattle.um_order.proofs.Standing.{Begun, Holds, Looks, goes, is_calm}
 use Rattle.um_order.proofs.WaitersStand.{AllStand}

@@ -63,7 +63,8 @@ use Rattle.um_order.proofs.KeptSteps.{Keeps, keeps-next, none-waits}
 use Rattle.um_order.proofs.KnownStirs.{stir-goes, stir-who}
 use Rattle.um_order.proofs.KnownWaits.{abort-waits, hand-waits, look-waits, word-calm}
 use Rattle.um_order.proofs.LastMade.{IsLast}
-use Rattle.um_order.proofs.OneStep.{Known, by-leaves}
+use Rattle.um_order.proofs.OneStep.{by-leaves}
+use Rattle.um_order.proofs.OneKnown.{Known}
 use Rattle.um_order.proofs.OneWithin.{at-most-one}
 use Rattle.um_order.proofs.Standing.{IsFull, Stands}
 use Rattle.um_order.proofs.WaitersStand.{AllStand, stands-after}

@@ -1,6 +1,6 @@
 -- With each lawful step of the one processor its event follows, or the point stays.
 use Rattle.std.proofs.Common.{◌≡◌, ◌⊎◌, inl, inr, ℕ, zero, suc, ◌<◌, Bool, true, false, [], ◌∷◌, Option, Some, None, refl, sym, ap, ◌∙◌, subst, arith}
-use Rattle.std.specs.Prelude.{◌==◌, IsTrue, if◌then◌else◌, is_some}
+use Rattle.std.specs.Prelude.{◌==◌, IsTrue, is_some}
 use Rattle.std.specs.List.{list_all}
 use Rattle.std.proofs.lemmas.Bool.{false≢true, true≢false}
 use Rattle.um_base.specs.declared.act.Act.{Act}
@@ -12,25 +12,20 @@ use Rattle.um_machine.specs.declared.pending.Pending.{Pending}
 use Rattle.um_machine.specs.Order.{Steps, to_thread}
 use Rattle.um_machine.specs.Run.{MayChoose}
 use Rattle.um_machine.specs.Time.{next_deadline}
-use Rattle.um_machine.specs.State.{State, is_started, is_waiting, thread_at}
+use Rattle.um_machine.specs.State.{State, is_started, thread_at}
 use Rattle.um_machine.specs.Table as T
-use Rattle.um_invariants.specs.Armings.{Arming, makes_step}
 use Rattle.um_invariants.specs.InOrder.{Point}
 use Rattle.um_invariants.specs.NextSteps.{IsLeast}
 use Rattle.um_invariants.proofs.ThreadWords.{AreKept}
-use Rattle.um_words.specs.declared.fine.FineAct.{FineAct}
 use Rattle.um_words.specs.declared.fine.Mark.{Mark}
-use Rattle.um_words.specs.declared.fine.Unseen.{Unseen}
-use Rattle.um_fine.specs.Answers.{act_in, is_tick, is_void, thread_in}
-use Rattle.um_fine.specs.Asks.{by_actor, by_me, marks_end}
+use Rattle.um_fine.specs.Answers.{act_in, is_tick, thread_in}
+use Rattle.um_fine.specs.Asks.{by_me}
 use Rattle.um_fine.specs.Clock.{deadlines}
 use Rattle.um_fine.specs.Continues.{continues}
 use Rattle.um_fine.specs.Places.{Todo, Todos}
-use Rattle.um_fine.specs.Processor.{actor_or}
 use Rattle.um_fine.specs.Steps.{FineStep}
-use Rattle.um_refinement.specs.Choice.{IsChosen}
 use Rattle.um_refinement.specs.Fine.{Fine, clock, joins, scheduler}
-use Rattle.um_refinement.specs.Lists.{has_steps, runs}
+use Rattle.um_refinement.specs.Lists.{has_steps}
 use Rattle.um_refinement.specs.Offers as O
 use Rattle.um_refinement.specs.Offers.{Fits, IsOffered}
 use Rattle.um_refinement.specs.Relation.{Rel}
@@ -50,31 +45,27 @@ use Rattle.um_refinement.proofs.Offered.{IsStep, Shows, by-made, runs-first, sho
 use Rattle.um_refinement.proofs.Reachable.{sound-held}
 use Rattle.um_refinement.proofs.StepReads.{shows_first}
 use Rattle.um_refinement.proofs.ResumeSteps.{TellsWaiters}
-use Rattle.um_refinement.proofs.SchedulerSteps.{made-says}
 use Rattle.um_refinement.proofs.VisitSteps.{visit-runs}
 use Rattle.um_refinement.proofs.WordsKept.{IsShown}
 use Rattle.um_order.proofs.AbortOrder.{aborts-itself, aborts-looks, aborts-rouses}
 use Rattle.um_order.proofs.ArmOrder.{arms}
-use Rattle.um_order.proofs.ArmingOrder.{AreSettled, IsArmed, held-some}
+use Rattle.um_order.proofs.ArmingOrder.{held-some}
 use Rattle.um_order.proofs.CleanOrder.{Cleaned, pair-follows, recycle-follows}
-use Rattle.um_order.proofs.Follow.{Followed, FollowsBy}
-use Rattle.um_order.proofs.HandOrder.{hold-void, pays-on}
-use Rattle.um_order.proofs.LookSteps.{cut-follows, look-void, rouse-on}
+use Rattle.um_order.proofs.Follow.{Followed}
+use Rattle.um_order.proofs.LookSteps.{cut-follows}
 use Rattle.um_order.proofs.LeaveOrder.{leave-follows}
 use Rattle.um_order.proofs.NextSteps.{ChoosesLeast}
 use Rattle.um_order.proofs.NotedBusy.{abort-busy}
-use Rattle.um_order.proofs.QuietSteps.{quiet-begun}
 use Rattle.um_order.proofs.Reserves.{chooses-least}
-use Rattle.um_order.proofs.Settled.{idle-settled}
 use Rattle.um_order.proofs.ShowSteps.{shown-begun, shown-opens}
 use Rattle.um_order.proofs.ShownLists.{stirs}
-use Rattle.um_order.proofs.Standing.{Begun, Holds, Idles, IsAway, IsFull, Looks, Opens, Pays, PutsAway, Stands, away, begun, gives_up, goes, holds, idles, is_calm, is_show, looks, looks_again, opens, pays, puts_to_sleep, rouses}
+use Rattle.um_order.proofs.Standing.{Begun, Holds, Idles, IsAway, IsFull, Looks, Opens, Stands, away, begun, gives_up, goes, holds, idles, is_calm, is_show, looks, looks_again, opens, pays, puts_to_sleep, rouses}
 use Rattle.um_order.proofs.StopOrder.{continue-follows, continues-itself}
-use Rattle.um_order.proofs.TakeSteps.{away-on, idle-on, opens-on}
 use Rattle.um_order.proofs.TakeOrder.{resume-follows}
 use Rattle.um_order.proofs.TimedOutOrder.{expire-follows, timed-out-follows}
 use Rattle.um_order.proofs.TickOrder.{tick-follows}
 use Rattle.um_order.proofs.VisitOrder.{drop-follows, fits-drop, fits-pass, pass-follows}
+use Rattle.um_order.proofs.OneKnown.{Known, quiet-follows, settled-idle}
 
 -- the steps by which none but a turn that has begun goes on
 abbrev is_turn : Todo → Bool
@@ -92,12 +83,6 @@ tail (q ∷ rest) = rest
 abbrev from_of : Steps → ℕ
 from_of (Pending.Drops from ∷ rest) = from
 from_of steps = 0
-
--- whom a step stops, or goes on with
-abbrev pub stirred : Pending → Option ℕ
-stirred (Pending.Abort who) = Some who.0
-stirred (Pending.Continue who) = Some who.0
-stirred q = None
 
 abbrev looked_first : Todos → Option ℕ
 looked_first (Todo.look who site before ∷ todo) = Some who
@@ -125,87 +110,6 @@ module _ (f : Fine) (at : Point) (e : FineStep) (law : Lawful f at.state e) (one
 
   abbrev t : ℕ
   t = p.context.thread
-
-  -- What is still to be shown of the states that one processor reaches.
-  pub record Known : Type 0 where
-    pub chosen : IsChosen f e
-    pub full : runs p ≡ true → IsFull at.state p.context.thread p.context.pending
-    -- nobody is aborted between the two readings of its word behind a wait
-    pub calm_word : Begun p (scheduler f) (clock f).marks at → (site : ℕ) (todo : Todos) → p.todo ≡ Todo.reread site ∷ todo → (thread_in e.word).aborted ≡ false
-    -- a look finds who waits, and a mark in the hand whom it is for
-    pub look_void : (was : Looks p (scheduler f) (clock f).marks at) → is_void e.act ≡ true → is_waiting (thread_at at.state was.who) ≡ false
-    -- behind a step that stops another thread, or goes on with one, its thread goes on; that one is no doomed thread
-    pub stir_goes : (q : Pending) (rest : Steps) (todo : Todos) → Shows f at.state e.cpu e q rest todo → stirs q (act_in e.act) ≡ true
-        → goes (continues f.image p.context 0 q rest (act_in e.act) e.moved).pending ≡ true
-    pub stir_who : (q : Pending) (rest : Steps) (todo : Todos) (x u : ℕ) → Shows f at.state e.cpu e q rest todo → stirred q ≡ Some u
-        → (u < THREADS) × ((thread_at (T.after at.state p.context.thread x q rest) u).doomed ≡ false)
-    -- who is aborted waits only with a note
-    pub abort_idle : (who : ThreadIx) (rest : Steps) (todo : Todos) (x : ℕ) → Shows f at.state e.cpu e (Pending.Abort who) rest todo → Rel later (T.after at.state p.context.thread x (Pending.Abort who) rest)
-        → (thread_in e.word).note ≡ None → is_waiting (thread_at (T.after at.state p.context.thread x (Pending.Abort who) rest) who.0) ≡ false
-    -- a join that says that its thread is no longer joined has the least row
-    pub join_least : (who : ThreadIx) (timeout : Timeout) (rest : Steps) (todo : Todos) (x : ℕ) → Shows f at.state e.cpu e (Pending.Join who timeout) rest todo → IsStep f at.state e.cpu e x (Pending.Join who timeout)
-        → x < 2 → IsLeast at.state p.context.thread (Pending.Join who timeout) x
-    -- where there are marks, the thread by which the processor makes the events of time made the last event
-    pub last_time : ((clock f).marks ≡ [] → ⊥) → at.last ≡ Some (to_thread (actor_or f.image p.actor))
-    pub hand_void : (was : Holds p (scheduler f) (clock f).marks at) → is_void e.act ≡ true → (a : Arming) → IsArmed was.deadline was.mark a → makes_step at.state a ≡ false
-
-  -- it settles each mark within the turn that armed it
-  settled-idle : p.todo ≡ [] → AreSettled (clock f).marks
-  settled-idle list =
-      let first : e.cpu ≡ 0 = (let l = law.by.named in omega (arith, l, one)) in
-      idle-settled f m law.rel one (ap (λ k. (f.processors k).todo) (sym first) ∙ list)
-
-  stays : Stands now (scheduler later) (joins later) (clock later).marks at → (act : FineAct) → e.act ≡ act → is_shown act ≡ false → Followed f at e law one orderly at.state
-  stays st (FineAct.Shown said more) is quiet = absurd (true≢false quiet)
-  stays st (FineAct.Unseen u) is quiet = record { point = at; follows = subst (λ a. FollowsBy at a at) (sym is) refl; state = refl; stands = st }
-
-  -- a step that shows no event
-  quiet-next : Known → is_shown e.act ≡ false → Stands p (scheduler f) (joins f) (clock f).marks at → Stands now (scheduler later) (joins later) (clock later).marks at
-  quiet-next known quiet (idles was) = by (idle-on f at e law was quiet known.chosen (settled-idle was.list))
-    where
-      by : Opens now (scheduler later) (clock later).marks at ⊎ Holds now (scheduler later) (clock later).marks at → Stands now (scheduler later) (joins later) (clock later).marks at
-      by (inl is) = opens is
-      by (inr is) = holds is
-  quiet-next known quiet (opens was) = away (opens-on f at e law was quiet)
-  quiet-next known quiet (away was) = by (away-on f at e law was)
-    where
-      by : PutsAway now (scheduler later) (clock later).marks at ⊎ Idles now (scheduler later) (clock later).marks at → Stands now (scheduler later) (joins later) (clock later).marks at
-      by (inl is) = away is
-      by (inr is) = idles is
-  quiet-next known quiet (begun was) = by (quiet-begun f at e law one suits.tells proper bounds was quiet (known.calm_word was))
-    where
-      by : Begun now (scheduler later) (clock later).marks at ⊎ Idles now (scheduler later) (clock later).marks at → Stands now (scheduler later) (joins later) (clock later).marks at
-      by (inl is) = begun is
-      by (inr is) = idles is
-  quiet-next known quiet (rouses was) = begun (rouse-on f at e law was)
-  quiet-next known quiet (looks was) =
-      begun (look-void f at e law was void (known.look_void was void))
-    where
-      void : is_void e.act ≡ true
-      void = by (is_void e.act) refl
-        where
-          by : (b : Bool) → is_void e.act ≡ b → b ≡ true
-          by true h = refl
-          by false h =
-              absurd (true≢false (ap is_shown (sym (made-says f m e law (Todo.look was.who was.site was.before ∷ was.todo) was.list ∙ ap (λ b. if b then FineAct.Unseen Unseen.Void else by_me f.image p (Act.Cut (to_thread was.who))) h)) ∙ quiet))
-  quiet-next known quiet (holds was) =
-      pays (hold-void f at e law one was void (known.hand_void was void))
-    where
-      void : is_void e.act ≡ true
-      void = by (is_void e.act) refl
-        where
-          by : (b : Bool) → is_void e.act ≡ b → b ≡ true
-          by true h = refl
-          by false h =
-              absurd (true≢false (ap is_shown (sym (made-says f m e law (Todo.handle was.deadline was.mark ∷ Todo.paid ∷ []) was.list ∙ ap (λ b. if b then FineAct.Unseen Unseen.Void else by_actor f.image p (marks_end f.image p was.mark e.act)) h)) ∙ quiet))
-  quiet-next known quiet (pays was) = by (pays-on f at e law one suits.tells proper bounds was)
-    where
-      by : Pays now (scheduler later) (clock later).marks at ⊎ Idles now (scheduler later) (clock later).marks at → Stands now (scheduler later) (joins later) (clock later).marks at
-      by (inl is) = pays is
-      by (inr is) = idles is
-
-  pub quiet-follows : Known → is_shown e.act ≡ false → Stands p (scheduler f) (joins f) (clock f).marks at → Followed f at e law one orderly at.state
-  quiet-follows known quiet st = stays (quiet-next known quiet st) e.act refl quiet
 
   -- a step that only a turn that has begun has first
   pub has-begun : (q : Todo) (todo : Todos) → p.todo ≡ q ∷ todo → is_turn q ≡ true → Stands p (scheduler f) (joins f) (clock f).marks at → Begun p (scheduler f) (clock f).marks at
@@ -256,7 +160,7 @@ module _ (f : Fine) (at : Point) (e : FineStep) (law : Lawful f at.state e) (one
     event-opens was = shown-opens f at e law one orderly kept lawful suits all q rest todo x h shown is calm related tells bounded full chooses (arms f at e law one orderly kept lawful suits all q rest todo x h shown is calm) was
 
   -- an event that stops or continues a thread
-  module _ (known : Known) where
+  module _ (known : Known f at e law one orderly kept lawful suits all proper bounds) where
     stir-follows : (q : Pending) (rest : Steps) (todo : Todos) (x : ℕ) → Shows f at.state e.cpu e q rest todo → IsStep f at.state e.cpu e x q → stirs q (act_in e.act) ≡ true → Rel later (T.after at.state p.context.thread x q rest)
         → IsFull at.state p.context.thread p.context.pending → Begun p (scheduler f) (clock f).marks at → Followed f at e law one orderly (T.after at.state p.context.thread x q rest)
     stir-follows (Pending.Continue who) rest todo x h is done related full was =
@@ -489,7 +393,7 @@ module _ (f : Fine) (at : Point) (e : FineStep) (law : Lawful f at.state e) (one
 
     pub by-leaves : OwnRows f.image → RestsHoldNothing at.state → (s2 : State) (leaves : Leaves f at.state e s2) → HasStep f at.state e s2 leaves → Rel later s2 → TellsWaiters s2 → AreBounded later
         → Stands p (scheduler f) (joins f) (clock f).marks at → Followed f at e law one orderly s2
-    by-leaves own rests _ (nothing u said) has related tells bounded st = quiet-follows known (ap is_shown said) st
+    by-leaves own rests _ (nothing u said) has related tells bounded st = quiet-follows f at e law one orderly kept lawful suits all proper bounds known (ap is_shown said) st
     by-leaves own rests _ (event q rest todo x h shown is) has related tells bounded st = event-least q rest todo x h shown is related tells bounded st
     by-leaves own rests _ (resumes c told rest idle moved said) has related tells bounded st =
         resume-follows f at e law one orderly c told rest (is-idle idle st) moved said has related tells bounded
@@ -532,7 +436,7 @@ module _ (f : Fine) (at : Point) (e : FineStep) (law : Lawful f at.state e) (one
             let was = handling deadline (Mark.Timer x) todo list st in
             expire-follows f at e law one orderly kept suits.waits was deadline x todo list said chosen started (known.last_time (held-marks was)) r bounded
         by (ticks list said) chosen started l r t =
-            tick-follows f at e law one orderly (is-idle list st) (ap is_tick said) known.chosen (settled-idle list) (known.last_time (ticked-marks chosen)) chosen started
+            tick-follows f at e law one orderly (is-idle list st) (ap is_tick said) known.chosen (settled-idle f at e law one orderly kept lawful suits all proper bounds list) (known.last_time (ticked-marks chosen)) chosen started
         by (L.leaves todo list said) chosen started l r t =
             leave-follows f at e law one orderly proper (has-begun Todo.leave todo list refl st) todo list said r t bounded
             (known.full (runs-first law.rel law.by.named Todo.leave todo list (λ hand. hand)))

@@ -19,7 +19,7 @@ use Rattle.um_refinement.specs.Threads.{runs_on, places, IsOf, as_cut}
 use Rattle.um_refinement.specs.Threads as R
 use Rattle.um_refinement.proofs.CleanSteps.{adds-one}
 use Rattle.um_order.proofs.CallsKept.{AtMostOne, IsBack}
-use Rattle.um_order.proofs.QuietSteps.{one-part}
+use Rattle.um_order.proofs.ParkedThreads.{one-part}
 
 back-cut : (n : ℕ) (c : Context) → IsPutBack c → IsBack (as_cut n c).pending
 back-cut zero c (inl none) = subst IsBack (sym none) tt

@@ -1,47 +1,39 @@
 -- A step that shows no event leaves the point as it is. By such steps threads that were woken, cut, started or roused come into the scheduler's ready
 -- list, as does the processor's own thread at the end of its turn. In the point's ready list they stand already.
-use Rattle.std.proofs.Common.{◌≡◌, ◌⊎◌, inl, inr, ℕ, zero, suc, ◌+◌, ◌<◌, Bool, true, false, List, [], ◌∷◌, ◌++◌, map, Option, Some, None, refl, sym, ap, ◌∙◌, subst, arith, append-nil, append_assoc, eq-eqb}
-use Rattle.std.specs.Prelude.{◌==◌, ◌&&◌, ◌||◌, not, IsTrue, if◌then◌else◌, is_some, nat_lt}
+use Rattle.std.proofs.Common.{◌≡◌, ◌⊎◌, inl, inr, ℕ, ◌+◌, ◌<◌, Bool, true, false, List, [], ◌∷◌, ◌++◌, map, Option, Some, None, refl, sym, ap, ◌∙◌, subst, arith, append_assoc, eq-eqb}
+use Rattle.std.specs.Prelude.{if◌then◌else◌, is_some, nat_lt}
 use Rattle.std.specs.List.{list_all, list_any}
-use Rattle.std.proofs.lemmas.Bool.{and_parts, eqb-true, false≢true, ltb-true, not-true, true≢false}
+use Rattle.std.proofs.lemmas.Bool.{and_parts, false≢true, ltb-true, true≢false}
 use Rattle.um_base.specs.declared.ask.Told.{Told}
-use Rattle.um_base.specs.declared.image.Image.{Image}
 use Rattle.um_base.specs.declared.limits.TheConstants.{THREADS}
-use Rattle.um_base.specs.declared.names.ThreadIx.{ThreadIx}
 use Rattle.um_machine.specs.declared.pending.Pending.{Pending}
-use Rattle.um_machine.specs.declared.thread.Thread.{Thread}
 use Rattle.um_machine.specs.Order.{Steps, to_thread}
 use Rattle.um_machine.specs.Services.{is_empty}
-use Rattle.um_machine.specs.State.{State, thread_at}
+use Rattle.um_machine.specs.State.{thread_at}
 use Rattle.um_invariants.specs.InOrder.{Point}
 use Rattle.um_words.specs.declared.fine.FineAct.{FineAct}
 use Rattle.um_words.specs.declared.fine.Mark.{Mark}
 use Rattle.um_words.specs.declared.fine.Unseen.{Unseen}
 use Rattle.um_fine.specs.Context.{Context}
-use Rattle.um_fine.specs.Answers.{act_in, context_in, due_in, is_word_read, mark_in, ready_in, thread_in, woken_in}
-use Rattle.um_fine.specs.Asks.{begins_cleaning, says_show}
+use Rattle.um_fine.specs.Answers.{act_in, context_in, due_in, mark_in, ready_in, thread_in, woken_in}
 use Rattle.um_fine.specs.Clock.{Clock}
 use Rattle.um_fine.specs.Follows.{goes_on_by, told_all}
 use Rattle.um_fine.specs.Follows as F
-use Rattle.um_fine.specs.Joins.{asleep_at}
 use Rattle.um_fine.specs.Places.{Todo, Todos}
-use Rattle.um_fine.specs.Scheduler.{Scheduler, behind, is_cut, is_ready, parked_at, told_at, waits}
+use Rattle.um_fine.specs.Scheduler.{Scheduler, behind, parked_at, waits}
 use Rattle.um_fine.specs.Sites.{same_site}
 use Rattle.um_fine.specs.Steps.{Exchange, FineStep, Site}
 use Rattle.um_refinement.specs.Cleaning.{AreBlocks}
-use Rattle.um_refinement.specs.Fine.{Fine, clock, joins, one_if, scheduler, total}
+use Rattle.um_refinement.specs.Fine.{Fine, clock, scheduler}
 use Rattle.um_refinement.specs.Frames.{Behind}
-use Rattle.um_refinement.specs.Lists.{adders, counted, has_steps, is_cut_told, is_done, is_sleep, of_thread, runs, runs_thread, wake_of}
-use Rattle.um_refinement.specs.Offers as O
+use Rattle.um_refinement.specs.Lists.{adders, counted, has_steps, is_cut_told, is_sleep, wake_of}
 use Rattle.um_refinement.specs.Relation.{ProcessorIs}
-use Rattle.um_refinement.specs.Offers.{Fits, IsOffered, is_over}
+use Rattle.um_refinement.specs.Offers.{Fits, is_over}
 use Rattle.um_refinement.specs.Threads as R
 use Rattle.um_refinement.specs.Threads.{IsOf, IsRun, as_cut, places, runs_on}
 use Rattle.um_refinement.proofs.AwayPart.{none-left}
 use Rattle.um_refinement.proofs.Bounds.{AreBounded, AreThreads}
-use Rattle.um_refinement.proofs.CallSteps.{Proper}
 use Rattle.um_refinement.proofs.CallsProper.{AreProper}
-use Rattle.um_refinement.proofs.CleanSteps.{adds-one}
 use Rattle.um_refinement.proofs.ClockSteps.{clock-else, clock-later, is_timing, off-clock}
 use Rattle.um_refinement.proofs.ContextsPart.{is_shown, is_sleep_step, now-context, quiet-context, read-only}
 use Rattle.um_refinement.proofs.Erased.{around}
@@ -49,82 +41,20 @@ use Rattle.um_refinement.proofs.Leaves.{Lawful}
 use Rattle.um_refinement.proofs.ListAdders.{is_rouse_step, next-adders}
 use Rattle.um_refinement.proofs.ListDone.{says_done}
 use Rattle.um_refinement.proofs.ListGrowth.{is_end}
-use Rattle.um_refinement.proofs.ListRuns.{ends-rests, goes-on}
+use Rattle.um_refinement.proofs.ListRuns.{goes-on}
 use Rattle.um_refinement.proofs.ListWakes.{Wakes, named, next-wakers, wakers, woken_by}
 use Rattle.um_refinement.proofs.MemorySteps.{part-total}
-use Rattle.um_refinement.proofs.Offered.{own-unless, runs-first}
 use Rattle.um_refinement.proofs.PlacesFacts.{wake-told}
-use Rattle.um_refinement.proofs.ResumeSteps.{TellsWaiters, some-is, told-some}
+use Rattle.um_refinement.proofs.ResumeSteps.{TellsWaiters, some-is}
 use Rattle.um_refinement.proofs.RunningPart.{is_scheduling, todo-elsewhere}
 use Rattle.um_refinement.proofs.SchedulerSteps.{made-at, made-moves, made-says, sched-else, sched-later, sched-said}
 use Rattle.um_refinement.proofs.StepReads.{is-behind, is-placed, last-read, reads-last}
-use Rattle.um_refinement.proofs.StepsLeft.{offered-on}
 use Rattle.um_order.proofs.ArmingOrder.{Plain, settles-plain}
 use Rattle.um_order.proofs.ListCalm.{is_plain, next-calm, next-cutters, plain-calm, plain-cutters, reread-calm, reread-cutters}
 use Rattle.um_order.proofs.ListShapes.{next-ends, next-shows}
-use Rattle.um_order.proofs.Standing.{Begun, ComeAlone, Idles, Turns, back, comers, cutters, goes, inside_of, is_calm, is_show, woken_of}
-
--- the steps that a thread at rest makes
-abbrev pub is_rest : Pending → Bool
-is_rest Pending.Begin = true
-is_rest Pending.Exit = true
-is_rest q = false
-
--- an instruction has no such step
-no-first : (image : Image) (checked : List Bool) (q : Pending) (rest : Steps) → is_rest q ≡ true → Proper image checked (q ∷ rest) → ⊥
-no-first image checked Pending.Begin rest h p = p
-no-first image checked Pending.Exit rest h p = p
-no-first image checked q rest h p = false≢true h
-
-no-second : (image : Image) (checked : List Bool) (who : ThreadIx) (q : Pending) (rest : Steps) → is_rest q ≡ true → Proper image checked (Pending.Inherit who ∷ q ∷ rest) → ⊥
-no-second image checked who Pending.Begin rest h p = p.0
-no-second image checked who Pending.Exit rest h p = p.0
-no-second image checked who q rest h p = false≢true h
-
-pub rest-offered : (image : Image) (checked : List Bool) (c : Context) {q : Pending} {rest : Steps} → IsOffered image c q rest → is_rest q ≡ true → Proper image checked c.pending → c.pending ≡ []
-rest-offered image checked c (O.goes {q} {rest} e) h p = absurd (no-first image checked q rest h (subst (Proper image checked) e p))
-rest-offered image checked c (O.passed {who} {q} {rest} e) h p = absurd (no-second image checked who q rest h (subst (Proper image checked) e p))
-rest-offered image checked c (O.dropped {from} {q} {rest} e) h p = absurd (no-first image checked q rest h (subst (Proper image checked) e p))
-rest-offered image checked c (O.begins e on i) h p = e
-rest-offered image checked c (O.exits e on i) h p = e
-
-awake-rest : (q : Pending) (rest : Steps) → is_rest q ≡ true → waits (q ∷ rest) ≡ false
-awake-rest Pending.Resume rest h = absurd (false≢true h)
-awake-rest q rest h = refl
-
--- and a thread that waits makes none
-offered-awake : (image : Image) (c : Context) {q : Pending} {rest : Steps} → IsOffered image c q rest → is_rest q ≡ true → waits c.pending ≡ false
-offered-awake image c (O.goes {q} {rest} e) h = ap waits e ∙ awake-rest q rest h
-offered-awake image c (O.passed e) h = ap waits e
-offered-awake image c (O.dropped e) h = ap waits e
-offered-awake image c (O.begins e on i) h = ap waits e
-offered-awake image c (O.exits e on i) h = ap waits e
-
-pub waits-left : (steps : Steps) → waits steps ≡ true → is_empty steps ≡ false
-waits-left [] h = absurd (false≢true h)
-waits-left (q ∷ rest) h = refl
-
-pub come-alone : (x y : Todos) → wakers x ≡ wakers y → cutters x ≡ cutters y → adders x ≡ adders y → ComeAlone y → ComeAlone x
-come-alone x y w c a alone = (λ some. w ∙ alone.0 (ap is_empty (sym c) ∙ some), λ some. let none = alone.1 (ap is_empty (sym a) ∙ some) in (w ∙ none.0, c ∙ none.1))
-
--- where the machine's thread waits, its own part does, and wasn't cut
-as-waits : (n : ℕ) (c : Context) → waits (as_cut n c).pending ≡ true → waits c.pending ≡ true
-as-waits zero c h = h
-as-waits (suc n) c h = absurd (false≢true h)
-
-pub own-waits : {f : Fine} {m : State} {c : Context} → IsOf f m c → waits (thread_at m c.thread).pending ≡ true → waits c.pending ≡ true
-own-waits {f} {m} {c} of waiting = as-waits (R.cutters f c.thread) c (ap (λ (th : Thread). waits th.pending) of.own ∙ waiting)
-
--- a call that is over has no step left
-pub over-rests : (c : Context) → is_over c ≡ true → c.pending ≡ []
-over-rests c over = none-left c.pending (and_parts c.ended (is_empty c.pending) over).1
-
-pub or-later : (a b : Bool) → (a || b) ≡ false → b ≡ false
-or-later true b h = absurd (true≢false h)
-or-later false b h = h
-
-pub one-part : (g : ℕ → ℕ) (n : ℕ) → n ≡ 1 → total g n ≡ g 0
-one-part g n h = subst (λ k. total g k ≡ g 0) (sym h) (omega arith)
+use Rattle.um_order.proofs.Standing.{Begun, ComeAlone, Idles, Turns, back, comers, cutters, inside_of, is_calm, is_show, woken_of}
+use Rattle.um_order.proofs.ParkedThreads.{waits-left, come-alone, own-waits, or-later, read-rests, lies-parked, not-added, not-asleep, not-run}
+use Rattle.um_order.proofs.TurnEnds.{parks, dones}
 
 module _ (f : Fine) (at : Point) (e : FineStep) (law : Lawful f at.state e) (one : f.cpus ≡ 1) (tells : TellsWaiters at.state) (proper : AreProper at.state.image at.state) (bounds : AreBounded f) where
   open around f e use {later, processor as p, now}
@@ -141,90 +71,6 @@ module _ (f : Fine) (at : Point) (e : FineStep) (law : Lawful f at.state e) (one
   fits-at : (todo : Todos) → p.todo ≡ todo → Fits f.image p.context todo
   fits-at todo h = subst (Fits f.image p.context) h (law.rel.processors e.cpu law.by.named).list.fits
 
-  -- where a step only reads the word of its thread, the thread is at rest
-  pub read-rests : (q : Pending) (rest : Steps) (todo : Todos) → p.todo ≡ Todo.show q rest ∷ todo → is_word_read e.act ≡ true → p.context.pending ≡ []
-  read-rests q rest todo list read = rest-offered f.image (thread_at at.state t).checked p.context fits rests steps
-    where
-      fits : IsOffered f.image p.context q rest
-      fits = (fits-at (Todo.show q rest ∷ todo) list).0
-
-      is : (q : Pending) → e.act ≡ says_show f.image p q e.act → is_rest q ≡ true
-      is Pending.Begin said = refl
-      is Pending.Exit said = refl
-      is q said = absurd (true≢false (sym read ∙ ap is_word_read said))
-
-      over : is_rest q ≡ true → (b : Bool) → is_over p.context ≡ b → Proper f.image (thread_at at.state t).checked p.context.pending
-      over rests true o = subst (Proper f.image (thread_at at.state t).checked) (sym (over-rests p.context o)) (absurd (true≢false (sym o ∙ offered-on f.image p.context q rest fits)))
-      over rests false o =
-          let of = (law.rel.contexts.running e.cpu law.by.named (runs-first law.rel law.by.named (Todo.show q rest) todo list (λ hand. hand))).of o in
-          let own = own-unless of (offered-awake f.image p.context fits rests) in
-          subst (λ (i : Image). Proper i (thread_at at.state t).checked p.context.pending) law.rel.image
-          (subst (Proper at.state.image (thread_at at.state t).checked) (sym (ap (λ (z : Thread). z.pending) own)) (proper t).0)
-
-      rests : is_rest q ≡ true
-      rests = is q (made-says f at.state e law (Todo.show q rest ∷ todo) list)
-
-      steps : Proper f.image (thread_at at.state t).checked p.context.pending
-      steps = over rests (is_over p.context) refl
-
-  -- Who is woken or cut is parked.
-
-  first : e.cpu ≡ 0
-  first = let l = law.by.named in omega (arith, l, one)
-
-  abbrev part : ℕ → ℕ → ℕ
-  part who k = one_if (runs_on who (f.processors k)) + of_thread who (adders (f.processors k).todo)
-
-  -- one that has a step left, and lies neither with the processor nor asleep
-  pub lies-parked : (who : ℕ) → who < THREADS → (is_empty (thread_at at.state who).pending ≡ false) → runs_on who p ≡ false → of_thread who (adders p.todo) ≡ 0 → is_some (asleep_at (joins f) who) ≡ false
-      → is_some (parked_at s who) ≡ true
-  lies-parked who few left not-mine not-new awake = by (is_some (parked_at s who)) refl
-    where
-      all : places f who ≡ part who e.cpu + one_if (is_some (parked_at s who)) + one_if (is_some (asleep_at (joins f) who))
-      all =
-          let whole : places f who ≡ total (part who) f.cpus + one_if (is_some (parked_at s who)) + one_if (is_some (asleep_at (joins f) who)) = refl in
-          let sum = one-part (part who) f.cpus one ∙ ap (part who) (sym first) in
-          whole ∙ ap (λ n. n + one_if (is_some (parked_at s who)) + one_if (is_some (asleep_at (joins f) who))) sum
-
-      by : (b : Bool) → is_some (parked_at s who) ≡ b → b ≡ true
-      by true h = refl
-      by false h =
-          let mine = ap one_if not-mine in
-          let new = not-new in
-          let rests = ap one_if h in
-          let sleepless = ap one_if awake in
-          let none = (law.rel.threads who few).away.away (omega (arith, all, mine, new, rests, sleepless)) in
-          absurd (true≢false (ap is_empty (sym none.1) ∙ left))
-
-  -- of whom an own part at rest would be, lies elsewhere
-  pub not-added : (who : ℕ) → ((c : Context) → c.thread ≡ who → IsOf f at.state c → c.pending ≡ [] → ⊥) → of_thread who (adders p.todo) ≡ 0
-  not-added who none = which (of_thread who (adders p.todo)) refl
-    where
-      which : (n : ℕ) → of_thread who (adders p.todo) ≡ n → n ≡ 0
-      which zero h = refl
-      which (suc n) h =
-          let d = adds-one who p.todo (omega (arith, h)) in
-          let added = law.rel.contexts.added e.cpu d.0 law.by.named d.1 in
-          absurd (none d.0 d.2 added.0 added.2)
-
-  pub not-asleep : (who : ℕ) → ((c : Context) → c.thread ≡ who → IsOf f at.state c → c.pending ≡ [] → ⊥) → is_some (asleep_at (joins f) who) ≡ false
-  not-asleep who none = which (asleep_at (joins f) who) refl
-    where
-      which : (o : Option Context) → asleep_at (joins f) who ≡ o → is_some o ≡ false
-      which None h = refl
-      which (Some c) h = let there = law.rel.contexts.asleep who c h in absurd (none c there.1 there.0 there.3)
-
-  not-run : (who : ℕ) → (is_over p.context ≡ false → t ≡ who → IsOf f at.state p.context → ⊥) → runs_on who p ≡ false
-  not-run who none = which (runs_on who p) refl
-    where
-      which : (b : Bool) → runs_on who p ≡ b → b ≡ false
-      which false h = refl
-      which true h =
-          let parts = and_parts (runs_thread who p) (not (is_over p.context)) h in
-          let is = and_parts (runs p) (t == who) parts.0 in
-          let on = not-true (is_over p.context) parts.1 in
-          absurd (none on (eqb-true t who is.1) ((law.rel.contexts.running e.cpu law.by.named is.0).of on))
-
   module _ (was : Begun p s (clock f).marks at) (quiet : is_shown e.act ≡ false) (calm-word : (site : ℕ) (todo : Todos) → p.todo ≡ Todo.reread site ∷ todo → (thread_in e.word).aborted ≡ false) where
     turn : Turns p p.todo [] s (clock f).marks at
     turn = was.0
@@ -233,7 +79,7 @@ module _ (f : Fine) (at : Point) (e : FineStep) (law : Lawful f at.state e) (one
     unread : (q : Pending) (rest : Steps) (todo : Todos) → p.todo ≡ Todo.show q rest ∷ todo → ⊥
     unread q rest todo list =
         let read = read-only f at.state e law q (made-says f at.state e law (Todo.show q rest ∷ todo) list) quiet in
-        let none = turn.shows (ap is_empty (read-rests q rest todo list read)) in
+        let none = turn.shows (ap is_empty (read-rests f at e law one tells proper bounds q rest todo list read)) in
         true≢false (sym (ap (list_any is_show) list) ∙ none)
 
     calm-behind : (q : Todo) (todo : Todos) → p.todo ≡ q ∷ todo → list_all is_calm todo ≡ true
@@ -366,7 +212,7 @@ module _ (f : Fine) (at : Point) (e : FineStep) (law : Lawful f at.state e) (one
     -- Threads get ready.
 
     woken-parked : (who : ℕ) (told : Told) (todo : Todos) → p.todo ≡ Todo.wake who told ∷ todo → is_some (parked_at s who) ≡ true
-    woken-parked who told todo list = lies-parked who few left (not-run who mine) (not-added who none) (not-asleep who none)
+    woken-parked who told todo list = lies-parked f at e law one tells proper bounds who few left (not-run f at e law one tells proper bounds who mine) (not-added f at e law one tells proper bounds who none) (not-asleep f at e law one tells proper bounds who none)
       where
         few : who < THREADS
         few = ltb-true who THREADS (and_parts _ _ (subst (λ (z : Todos). AreThreads (wakers z)) list (bounds.wakes e.cpu law.by.named))).0
@@ -430,7 +276,7 @@ module _ (f : Fine) (at : Point) (e : FineStep) (law : Lawful f at.state e) (one
 
     -- One that was cut is told that after all that were woken: nobody is to be woken then.
     cut-parked : (who : ℕ) (todo : Todos) → p.todo ≡ Todo.tell_cut who ∷ todo → is_some (parked_at s who) ≡ true
-    cut-parked who todo list = lies-parked who few left (not-run who mine) (not-added who none) (not-asleep who none)
+    cut-parked who todo list = lies-parked f at e law one tells proper bounds who few left (not-run f at e law one tells proper bounds who mine) (not-added f at e law one tells proper bounds who none) (not-asleep f at e law one tells proper bounds who none)
       where
         some : 0 < R.cutters f who
         some =
@@ -546,134 +392,6 @@ module _ (f : Fine) (at : Point) (e : FineStep) (law : Lawful f at.state e) (one
         after : s.ready ++ ((c.thread ∷ rest) ++ back p.context) ≡ (scheduler later).ready ++ (comers now.todo ++ back p.context)
         after = sym (append_assoc s.ready (c.thread ∷ []) (rest ++ back p.context)) ∙ λ i. sym ready i ++ (sym left i ++ back p.context)
 
-    -- The turn ends.
-
-    parks : (todo : Todos) → p.todo ≡ Todo.park ∷ todo → Idles now (scheduler later) (clock later).marks at
-    parks todo list =
-        record {
-          list = ends-rests f.image p e Todo.park todo list refl (ap (λ (a : FineAct). begins_cleaning (record e { act = a })) said);
-          skipped = [];
-          still = tt;
-          ready = turn.ready ∙ (ap (λ (z : Todos). s.ready ++ (comers z ++ back p.context)) (list ∙ ap (λ (z : Todos). Todo.park ∷ z) empty) ∙ by p.context.pending refl fits.0);
-          inside = turn.inside ∙ out p.context fits.0;
-          cut = was.1;
-          armings = inl (timeless Todo.park todo list refl);
-        }
-      where
-        act : FineAct
-        act = FineAct.Unseen (Unseen.Park (to_thread t) (ready_in e.act))
-
-        said : e.act ≡ act
-        said = made-says f at.state e law (Todo.park ∷ todo) list
-
-        site : e.site ≡ Site.scheduler
-        site = made-at f at.state e law (Todo.park ∷ todo) list
-
-        moved : e.moved ≡ Exchange.thread p.context None
-        moved = made-moves f at.state e law (Todo.park ∷ todo) list
-
-        empty : todo ≡ []
-        empty = frame Todo.park todo list
-
-        fits : O.IsPutBack p.context × (is_over p.context ≡ false) × (todo ≡ [])
-        fits = fits-at (Todo.park ∷ todo) list
-
-        answer : is_ready s p.context ≡ ready_in e.act
-        answer = ap (λ (c : Context). is_ready s c) (sym (ap context_in moved)) ∙ ap ready_in (sched-said f at.state e law site act said)
-
-        ready : (scheduler later).ready ≡ behind (is_ready s p.context) t s.ready
-        ready =
-            ap (λ (z : Scheduler). z.ready) (sched-later f at.state e law site act said)
-            ∙ λ i. behind (sym answer i) (context_in (moved i)).thread s.ready
-
-        out : (c : Context) → O.IsPutBack c → inside_of c ≡ None
-        out c (inl h) = ap (λ steps. if goes steps then Some (to_thread c.thread) else None) h
-        out c (inr h) = which c.pending h
-          where
-            which : (steps : Steps) → IsTrue (waits steps) → (if goes steps then Some (to_thread c.thread) else None) ≡ None
-            which [] k = absurd (false≢true k)
-            which (Pending.Resume ∷ rest) k = refl
-            which (q ∷ rest) k = absurd (false≢true k)
-
-        of : IsRun f at.state p.context
-        of = law.rel.contexts.running e.cpu law.by.named (runs-first law.rel law.by.named Todo.park todo list (λ hand. hand))
-
-        -- if it waits, it was told nothing, and wasn't cut
-        untold : IsTrue (waits p.context.pending) → is_some (told_at s t) ≡ false
-        untold h = which (is_some (told_at s t)) refl
-          where
-            which : (b : Bool) → is_some (told_at s t) ≡ b → b ≡ false
-            which false k = refl
-            which true k =
-                let some = told-some f at.state law.rel t f.cpus k in
-                absurd (false≢true (ap is_some (sym (turn.told h)) ∙ (ap is_some (law.rel.threads t of.index).told.told ∙ some)))
-
-        uncut : IsTrue (waits p.context.pending) → is_cut s t ≡ false
-        uncut h = which (is_cut s t) refl
-          where
-            which : (b : Bool) → is_cut s t ≡ b → b ≡ false
-            which false k = refl
-            which true k =
-                let here = ap one_if k in
-                let left = (law.rel.threads t of.index).cut.left (omega (arith, here)) in
-                absurd (false≢true (ap waits (sym left) ∙ turn.whole h))
-
-        by : (steps : Steps) → p.context.pending ≡ steps → O.IsPutBack p.context → s.ready ++ ([] ++ back p.context) ≡ [] ++ (scheduler later).ready
-        by [] h put =
-            let on : p.context.ended ≡ false = not-over p.context h fits.1 in
-            let mine : back p.context ≡ t ∷ [] = λ i. if is_empty (h i) && not (on i) then t ∷ [] else [] in
-            let there : is_ready s p.context ≡ true = ap (λ z. not (waits z) || is_some (told_at s t) || is_cut s t) h in
-            ap (λ z. s.ready ++ z) mine ∙ sym (ready ∙ ap (λ b. behind b t s.ready) there)
-          where
-            not-over : (c : Context) → c.pending ≡ [] → is_over c ≡ false → c.ended ≡ false
-            not-over c h o = which c.ended refl
-              where
-                which : (b : Bool) → c.ended ≡ b → b ≡ false
-                which false k = refl
-                which true k = absurd (true≢false (sym (λ i. k i && is_empty (h i)) ∙ o))
-        by (q ∷ rest) h put =
-            let waiting : waits p.context.pending ≡ true = later-waits put in
-            let mine : back p.context ≡ [] = ap (λ z. if is_empty z && not p.context.ended then t ∷ [] else []) h in
-            let gone : is_ready s p.context ≡ false = λ i. not (waiting i) || untold waiting i || uncut waiting i in
-            ap (λ z. s.ready ++ z) mine ∙ (append-nil s.ready ∙ sym (ready ∙ ap (λ b. behind b t s.ready) gone))
-          where
-            later-waits : O.IsPutBack p.context → waits p.context.pending ≡ true
-            later-waits (inl none) = absurd (false≢true (sym (ap is_empty h) ∙ ap is_empty none))
-            later-waits (inr w) = w
-
-    dones : (todo : Todos) → p.todo ≡ Todo.done ∷ todo → Idles now (scheduler later) (clock later).marks at
-    dones todo list =
-        record {
-          list = ends-rests f.image p e Todo.done todo list refl (ap (λ (a : FineAct). begins_cleaning (record e { act = a })) said);
-          skipped = [];
-          still = tt;
-          ready = turn.ready ∙ (ap (λ (z : Todos). s.ready ++ (comers z ++ back p.context)) whole ∙ (ap (λ z. s.ready ++ z) mine ∙ (append-nil s.ready ∙ sym same)));
-          inside = turn.inside ∙ ap (λ steps. if goes steps then Some (to_thread t) else None) rests;
-          cut = was.1;
-          armings = inl (timeless Todo.done todo list refl);
-        }
-      where
-        said : e.act ≡ FineAct.Unseen Unseen.Done
-        said = made-says f at.state e law (Todo.done ∷ todo) list
-
-        site : e.site ≡ Site.scheduler
-        site = made-at f at.state e law (Todo.done ∷ todo) list
-
-        whole : p.todo ≡ Todo.done ∷ []
-        whole = list ∙ ap (λ (z : Todos). Todo.done ∷ z) (frame Todo.done todo list)
-
-        over : p.context.ended ≡ true
-        over = turn.ends (ap says_done whole)
-
-        rests : p.context.pending ≡ []
-        rests = (law.rel.contexts.done e.cpu law.by.named (ap (list_any is_done) whole) (ap (list_any is_sleep) whole)).0
-
-        mine : back p.context ≡ []
-        mine = λ i. if is_empty (rests i) && not (over i) then t ∷ [] else []
-
-        same : (scheduler later).ready ≡ s.ready
-        same = ap (λ (z : Scheduler). z.ready) (sched-later f at.state e law site (FineAct.Unseen Unseen.Done) said)
-
     -- the turn goes on, or has ended
     pub quiet-begun : Begun now (scheduler later) (clock later).marks at ⊎ Idles now (scheduler later) (clock later).marks at
     quiet-begun = by p.todo refl
@@ -694,6 +412,6 @@ module _ (f : Fine) (at : Point) (e : FineStep) (law : Lawful f at.state e) (one
         by (Todo.reread_asleep ∷ todo) list = absurd (false≢true (calm-first Todo.reread_asleep todo list))
         by (Todo.handle deadline mark ∷ todo) list = absurd (false≢true (calm-first (Todo.handle deadline mark) todo list))
         by (Todo.paid ∷ todo) list = absurd (false≢true (calm-first Todo.paid todo list))
-        by (Todo.park ∷ todo) list = inr (parks todo list)
-        by (Todo.done ∷ todo) list = inr (dones todo list)
+        by (Todo.park ∷ todo) list = inr (parks f at e law was todo list)
+        by (Todo.done ∷ todo) list = inr (dones f at e law was todo list)
         by (q ∷ todo) list = inl (easily q todo list refl refl refl refl refl refl refl refl refl refl refl)

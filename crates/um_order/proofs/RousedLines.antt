@@ -23,7 +23,7 @@ use Rattle.um_refinement.specs.Threads.{IsOf, cutters as cuts, is_ready_there, o
 use Rattle.um_refinement.proofs.Offered.{not-cut}
 use Rattle.um_refinement.proofs.PlacesFacts.{parked-unslept}
 use Rattle.um_order.proofs.EventLines.{own-is, rest-is}
-use Rattle.um_order.proofs.QuietSteps.{one-part}
+use Rattle.um_order.proofs.ParkedThreads.{one-part}
 use Rattle.um_order.proofs.ReadyLines.{joins-new}
 
 occurs-stands : (t : ℕ) (xs : List ℕ) → 0 < occurs t xs → stands xs t ≡ true

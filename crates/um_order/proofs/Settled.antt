@@ -13,7 +13,7 @@ use Rattle.um_refinement.specs.Relation.{Rel}
 use Rattle.um_refinement.specs.Timing.{is_open, open_marks, settles}
 use Rattle.um_refinement.proofs.MarkFacts.{same-itself}
 use Rattle.um_order.proofs.ArmingOrder.{AreSettled}
-use Rattle.um_order.proofs.QuietSteps.{one-part}
+use Rattle.um_order.proofs.ParkedThreads.{one-part}
 
 -- where no mark is open for any deadline, each is settled
 none-open : (ms : List Marked) → ((d : ℕ) (mark : Mark) → open_marks d mark ms ≡ 0) → AreSettled ms

@@ -1,86 +1,40 @@
 -- What stands on the list behind the event of a pending step, and who makes one.
-use Rattle.std.proofs.Common.{◌≡◌, ◌⊎◌, inl, inr, ℕ, suc, ◌+◌, ◌<◌, Bool, true, false, List, [], ◌∷◌, ◌++◌, map, length, Option, Some, None, refl, sym, ap, ◌∙◌, subst, arith, append-nil}
-use Rattle.std.specs.Prelude.{◌==◌, ◌&&◌, ◌||◌, not, IsTrue, if◌then◌else◌, is_some}
+use Rattle.std.proofs.Common.{◌≡◌, ◌⊎◌, inl, inr, ℕ, suc, ◌+◌, Bool, true, false, List, [], ◌∷◌, ◌++◌, map, length, Option, Some, None, refl, sym, ap, ◌∙◌, subst, arith}
+use Rattle.std.specs.Prelude.{◌==◌, ◌&&◌, ◌||◌, not, IsTrue, if◌then◌else◌}
 use Rattle.std.specs.List.{list_all, list_any}
 use Rattle.std.proofs.lemmas.Bool.{and_from, and_parts, false≢true, true≢false}
 use Rattle.std.proofs.lemmas.Bool.Decides.{nat_tests}
 use Rattle.um_base.specs.declared.act.Act.{Act}
-use Rattle.um_base.specs.declared.names.Access.{Access}
-use Rattle.um_base.specs.declared.ask.Ask.{Ask}
 use Rattle.um_base.specs.declared.ask.Told.{Told}
 use Rattle.um_base.specs.declared.image.Image.{Image}
-use Rattle.um_base.specs.declared.limits.TheConstants.{THREADS}
-use Rattle.um_base.specs.declared.names.Addr.{Addr}
 use Rattle.um_base.specs.declared.names.Reply.{Reply}
 use Rattle.um_base.specs.declared.names.ThreadIx.{ThreadIx}
-use Rattle.um_base.specs.Lawful.{IsLawful}
 use Rattle.um_base.specs.Places.{own_row}
 use Rattle.um_machine.specs.declared.pending.Pending.{Pending}
-use Rattle.um_machine.specs.declared.thread.Thread.{Thread}
 use Rattle.um_machine.specs.Order.{Steps, to_thread}
 use Rattle.um_machine.specs.Run as R
 use Rattle.um_machine.specs.Run.{Offers, may_go, must_stop}
 use Rattle.um_machine.specs.Services.{is_empty}
 use Rattle.um_machine.specs.State.{State, thread_at}
 use Rattle.um_machine.specs.Table as T
-use Rattle.um_invariants.specs.Armings.{armings_after}
-use Rattle.um_invariants.specs.InOrder.{Point, to_cut, waiting}
 use Rattle.um_invariants.specs.Lines.{stands}
-use Rattle.um_invariants.specs.Ready.{behind_next, is_still, next_ready, readied, roused, running_or}
-use Rattle.um_invariants.proofs.ThreadOffers.{made, offered}
-use Rattle.um_invariants.proofs.ThreadWords.{AreKept, IsOffered as IsTurn, is_beside, is_resume}
+use Rattle.um_invariants.specs.Ready.{is_still}
+use Rattle.um_invariants.proofs.ThreadWords.{is_beside, is_resume}
 use Rattle.um_invariants.proofs.ThreadWaits.{numbers}
 use Rattle.um_fine.specs.Addresses.{row_named}
-use Rattle.um_fine.specs.Answers.{act_in, answer_in, is_done_in, outcome_in, thread_in, woken_in}
-use Rattle.um_fine.specs.Asks.{allows, more_of, says_step}
+use Rattle.um_fine.specs.Answers.{act_in, is_done_in, outcome_in, thread_in, woken_in}
 use Rattle.um_fine.specs.Context.{Context}
-use Rattle.um_fine.specs.Continues.{continues}
-use Rattle.um_fine.specs.Follows.{after_show, behind_step, end_calls, goes_on_by, looks_behind, looks_for, shown_step, told_all, wakes}
-use Rattle.um_fine.specs.Places.{Todo, Todos, armed_for, put_away, settling}
-use Rattle.um_fine.specs.Processor.{Processor}
-use Rattle.um_fine.specs.Scheduler.{told_at}
-use Rattle.um_fine.specs.Sites.{same_site}
-use Rattle.um_fine.specs.Steps.{Exchange, FineStep, Site}
-use Rattle.um_refinement.specs.Cleaning.{AreBlocks}
-use Rattle.um_refinement.specs.Fine.{Fine, clock, one_if, scheduler}
-use Rattle.um_refinement.specs.Frames.{Behind}
-use Rattle.um_refinement.specs.Lists.{adders, counted, has_steps, is_wake, runs}
+use Rattle.um_fine.specs.Follows.{behind_step, end_calls, looks_behind, looks_for, told_all, wakes}
+use Rattle.um_fine.specs.Places.{Todo, Todos, armed_for, settling}
+use Rattle.um_fine.specs.Steps.{Exchange, FineStep}
+use Rattle.um_refinement.specs.Lists.{adders}
 use Rattle.um_refinement.specs.Offers as O
 use Rattle.um_refinement.specs.Offers.{Fits, IsOffered, behind_shown, is_over}
-use Rattle.um_refinement.specs.Relation.{Rel}
-use Rattle.um_refinement.specs.Threads.{IsOf, cutters as cuts, occurs, tellers}
-use Rattle.um_refinement.proofs.AwayPart.{none-left}
-use Rattle.um_refinement.proofs.Bounds.{AreBounded}
-use Rattle.um_refinement.proofs.ChildrenKnown.{AllCreate}
-use Rattle.um_refinement.proofs.Continued.{continues-thread}
-use Rattle.um_refinement.proofs.ContextsPart.{event-uncut, now-context}
-use Rattle.um_refinement.proofs.Erased.{around}
-use Rattle.um_refinement.proofs.LawfulSteps.{Suits}
-use Rattle.um_refinement.proofs.Leaves.{Lawful, Leaves, event}
-use Rattle.um_refinement.proofs.ListAdders.{next-adders}
+use Rattle.um_refinement.specs.Threads.{occurs}
 use Rattle.um_refinement.proofs.ListDone.{says_done}
-use Rattle.um_refinement.proofs.ListGrowth.{ReadsLast, show-kept}
-use Rattle.um_refinement.proofs.ListRuns.{goes-on, goes-runs}
-use Rattle.um_refinement.proofs.ListWakes.{LastRead, named, next-wakers, wake-times, wakers, woken_by}
-use Rattle.um_refinement.proofs.MemoryPart.{InDomains}
-use Rattle.um_refinement.proofs.OfKept.{of-kept}
-use Rattle.um_refinement.proofs.Offered.{IsStep, IsStopping, Shows, behind-is, by-made, own-part, own-same, shown-offers, shows-runs}
-use Rattle.um_refinement.proofs.OwnKept.{carries}
-use Rattle.um_refinement.proofs.ResumeSteps.{TellsWaiters}
-use Rattle.um_refinement.proofs.RunningPart.{todo-elsewhere}
-use Rattle.um_refinement.proofs.SchedulerSteps.{made-at, sched-else}
-use Rattle.um_refinement.proofs.StepReads.{is-behind, last-read, reads-last}
-use Rattle.um_refinement.proofs.ToldFacts.{none-told, untold}
+use Rattle.um_refinement.proofs.ListWakes.{named, wakers, woken_by}
 use Rattle.um_refinement.proofs.WordsKept.{IsShown}
-use Rattle.um_order.proofs.ArmingOrder.{Plain}
-use Rattle.um_order.proofs.EventLines.{occurs-woken}
-use Rattle.um_order.proofs.Follow.{Followed, IsEvent, follow, here}
-use Rattle.um_order.proofs.ListCalm.{Calm, calm-expands, cuts-expands, next-calm, next-cutters}
-use Rattle.um_order.proofs.ListShapes.{is_own, next-ends, next-shows}
-use Rattle.um_order.proofs.NextSteps.{ChoosesLeast, leads, next-is}
-use Rattle.um_order.proofs.QuietSteps.{one-part}
-use Rattle.um_order.proofs.ReadyLines.{behind-skips, next-skips, occurs-append}
-use Rattle.um_order.proofs.Standing.{Begun, ComeAlone, IsFull, Opens, back, comers, cutters, goes, inside_of, is_calm, is_show, woken_of}
+use Rattle.um_order.proofs.Standing.{cutters, goes, inside_of, is_calm, is_show, woken_of}
 
 -- where a step is offered and shown, its thread is at rest, or goes on with its instruction
 first-goes : (q : Pending) (rest : Steps) → IsShown q → goes (q ∷ rest) ≡ true

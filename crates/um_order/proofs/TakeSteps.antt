@@ -51,7 +51,7 @@ use Rattle.um_refinement.proofs.SchedulerSteps.{made-at, made-says, sched-else, 
 use Rattle.um_refinement.proofs.StepReads.{is-placed}
 use Rattle.um_refinement.proofs.Taking.{Idles as Takes, IsTaken, idles as idles-by, takes, tends}
 use Rattle.um_order.proofs.ArmingOrder.{AreSettled, Held, Passed, Plain, fresh, give-passed}
-use Rattle.um_order.proofs.QuietSteps.{is_rest}
+use Rattle.um_order.proofs.ParkedThreads.{is_rest}
 use Rattle.um_order.proofs.ReadyLines.{occurs-first, still-push}
 use Rattle.um_order.proofs.Standing.{AllStill, Holds, Idles, IsAway, Opens, PutsAway, gives_up, is_show, looks_again, puts_to_sleep}
 
