@@ -77,9 +77,9 @@ module _ (v : View) (i w : ℕ) (m : Moment Opens Follows NextGoes v i w) (name 
       let named = only-first (length u.name) id u at lives (omega arith) in
       let mine = same-seat id u at lives named in
       ⊎_elim
-          (λ is. absurd (other (sym is ∙ named)))
-          (λ among. absurd (subst (λ (l : List (List ℕ × List Made)). Among l n) lists (subst (λ (x : View). Among x.joined n) mine among)))
-          has)
+      (λ is. absurd (other (sym is ∙ named)))
+      (λ among. absurd (subst (λ (l : List (List ℕ × List Made)). Among l n) lists (subst (λ (x : View). Among x.joined n) mine among)))
+      has)
       (m.kept.told n)
 
 module _ (image : Image) (described : IsDescribed image) (can : CanRun image 8) (longest : (run : List FineStep) → IsFineRun image 8 run → length run ≤ weight image)

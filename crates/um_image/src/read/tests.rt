@@ -88,7 +88,9 @@ const FUTEXES: [(&str, &str); 14] = [
         "image",
     ),
     (
-        with_futexes!("futex = [{name = \"f\", partition = \"p\", offset = 1}, {name = \"g\", partition = \"p\", offset = 2}]"),
+        with_futexes!(
+            "futex = [{name = \"f\", partition = \"p\", offset = 1}, {name = \"g\", partition = \"p\", offset = 2}]"
+        ),
         "image",
     ),
     (with_futexes!("futex = {}"), "WrongType futex"),
@@ -113,11 +115,15 @@ const FUTEXES: [(&str, &str); 14] = [
         "Duplicate futex[0].name",
     ),
     (
-        with_futexes!("futex = [{name = \"f\", partition = \"p\", offset = 4}, {name = \"g\", partition = \"p\", offset = 4}]"),
+        with_futexes!(
+            "futex = [{name = \"f\", partition = \"p\", offset = 4}, {name = \"g\", partition = \"p\", offset = 4}]"
+        ),
         "Duplicate futex[1].offset",
     ),
     (
-        with_futexes!("futex = [{name = \"f\", partition = \"p\", offset = 4}, {name = \"f\", partition = \"p\", offset = 4}]"),
+        with_futexes!(
+            "futex = [{name = \"f\", partition = \"p\", offset = 4}, {name = \"f\", partition = \"p\", offset = 4}]"
+        ),
         "Duplicate futex[1].name",
     ),
     (
