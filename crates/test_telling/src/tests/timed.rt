@@ -117,7 +117,7 @@ fn tells<R: Abort + AllocGlobal>(rt: &R, description: &str, text: &str) -> Resul
     let image = image_of(rt.alloc(), description)?;
     let mut matrix = Matrix::boot(rt.alloc(), &image)?;
     let mut events = Vec::new(rt.alloc());
-    for _ in 0..64 {
+    for _ in 0..64usize {
         if let Some(event) = matrix.next_event() {
             assert!(rt; matrix.apply(&event).is_ok());
             events.push(event)?;
