@@ -36,10 +36,14 @@ fn a_look_finds_nobody_of_a_later_life(rt: HostRuntime) -> Result<(), Fail> {
         Err(_) => return Err(Fail::new("refused")),
     };
     let mut core = Core::boot(rt.alloc(), &image, 3, 100)?;
-    for (cpu, most, count) in [(0, 7, 7), (1, 4, 4), (2, 1000, 318), (1, 1000, 139)] {
-        let made = steps(&mut core, &image, cpu, most);
-        assert_eq!(rt; made, count, "processor {cpu}");
-    }
+    let waits = steps(&mut core, &image, 0, 7);
+    assert_eq!(rt; waits, 7);
+    let aborts = steps(&mut core, &image, 1, 4);
+    assert_eq!(rt; aborts, 4);
+    let lives = steps(&mut core, &image, 2, 1000);
+    assert_eq!(rt; lives, 318);
+    let looks = steps(&mut core, &image, 1, 1000);
+    assert_eq!(rt; looks, 139);
     let mut starts: usize = 0;
     for event in core.into_sites().events() {
         match event.act {
