@@ -2,3 +2,4 @@ pub mod Offered
 pub mod Worked
 pub mod Lending
 pub mod OfRun
+pub mod Ahead

@@ -1,34 +1,69 @@
 //! Virtual time, and the deadlines that were armed.
 
-ghost use Rattle.std.specs.Prelude.{◌≡◌, ◌+◌, ◌<◌, ◌≤◌, ◌*◌, ◌^◌, ◌++◌, ◌∷◌, [], IfOk, length, unwrap_or};
+ghost use Rattle.std.specs.Prelude.{◌≡◌, ◌+◌, ◌<◌, ◌≤◌, ◌*◌, ◌^◌, ◌++◌, ◌∷◌, [], IfOk, MatchOption, if◌then◌else◌, insert, length, nat_lt, unwrap_or, vec_capacity};
 ghost use Rattle.um_base.specs.declared.limits.TheConstants.{MOST_WEIGHT};
 ghost use Rattle.um_machine.specs.Time.{next_deadline};
+ghost use Rattle.um_matrix.specs.Ahead.{with_deadline};
 
 use std::alloc::Global;
 use std::marker::Model;
 use um_base::{MOST_WEIGHT, OutOfMemory};
-use um_steps::time::next_deadline;
 
-/// Virtual time, in ticks from the beginning, and the deadlines in the order in which they were armed. Room for as many as a run can arm
-/// is reserved from the beginning. Contracts see both.
+/// Virtual time, in ticks from the beginning, and the deadlines in the order in which they were armed. Those that lie ahead stand beside
+/// them, so that a step looks at the first of these alone. Room for as many as a run can arm is reserved from the beginning. Contracts see
+/// the time, and all deadlines.
 #[derive(Drop)]
 pub struct Clock {
     present: u64,
     armed: Vec<u64>,
+    /// The deadlines ahead, ascending. One that was armed more than once stands there once.
+    ahead: Vec<u64>,
 }
 
 impl Model for Clock {
-    ghost use Rattle.std.specs.Prelude.{ℕ, List, ◌≤◌, ◌*◌, ◌^◌, length, vec_capacity, All};
+    ghost use Rattle.std.specs.Prelude.{ℕ, List, ◌≤◌, ◌*◌, ◌^◌, length, vec_capacity};
     ghost use Rattle.um_base.specs.declared.limits.TheConstants.{MOST_WEIGHT};
+    ghost use Rattle.um_matrix.specs.Ahead.{IsAhead};
 
     ghost Value = { ℕ × List ℕ };
 
     ghost view = { λ c. (c.present, c.armed.items) };
 
     ghost invariant = { λ c.
-        (length c.armed.items ≤ MOST_WEIGHT) × (MOST_WEIGHT ≤ vec_capacity c.armed)
+        (length c.armed.items ≤ MOST_WEIGHT) × (MOST_WEIGHT ≤ vec_capacity c.armed) × (MOST_WEIGHT ≤ vec_capacity c.ahead)
         × (c.present ≤ length c.armed.items * 2 ^ 32)
-        × All (λ d. d ≤ length c.armed.items * 2 ^ 32) c.armed.items };
+        × IsAhead c.present c.armed.items c.ahead.items };
+}
+
+/// The place of a deadline among ascending ones, unless it is among them.
+fn place_of(deadline: u64, ahead: &[u64]) -> Option<usize>
+    ensures { MatchOption result (with_deadline deadline ahead.now ≡ ahead.now)
+        (λ i. (i ≤ length ahead.now) × (with_deadline deadline ahead.now ≡ insert ahead.now i deadline)) }
+{
+    for i in 0..ahead.len() {
+        let other = ahead[i];
+        if other == deadline {
+            return None;
+        }
+        if deadline < other {
+            return Some(i);
+        }
+    }
+    Some(ahead.len())
+}
+
+/// Puts a deadline at its place among those that lie ahead, if it lies ahead and isn't among them. It takes no memory.
+fn put(now: u64, deadline: u64, ahead: &mut Vec<u64>)
+    requires { length ahead.old.items < vec_capacity ahead.old }
+    ensures items { ahead.new.items ≡ if nat_lt now deadline then with_deadline deadline ahead.old.items else ahead.old.items }
+    ensures room { vec_capacity ahead.new ≡ vec_capacity ahead.old }
+{
+    if deadline <= now {
+        return;
+    }
+    if let Some(place) = place_of(deadline, ahead.as_slice()) {
+        let _ = ahead.insert(place, deadline);
+    }
 }
 
 impl Clock {
@@ -36,8 +71,11 @@ impl Clock {
     pub fn new(alloc: Global) -> Result<Clock, OutOfMemory>
         ensures { IfOk result (λ clock. clock ≡ (0, [])) }
     {
-        let armed = Vec::with_capacity(alloc, MOST_WEIGHT as usize)?;
-        Ok(Clock { present: 0, armed })
+        Ok(Clock {
+            present: 0,
+            armed: Vec::with_capacity(alloc, MOST_WEIGHT as usize)?,
+            ahead: Vec::with_capacity(alloc, MOST_WEIGHT as usize)?,
+        })
     }
 
     /// The ticks from the beginning.
@@ -58,7 +96,7 @@ impl Clock {
     pub fn next(&self) -> Option<u64>
         ensures { result ≡ next_deadline self.now.0 self.now.1 }
     {
-        next_deadline(self.present, self.armed.as_slice())
+        self.ahead.first().copied()
     }
 
     /// Arms the deadline after so many ticks from now. It takes no memory.
@@ -68,6 +106,7 @@ impl Clock {
         ensures armed { self.new ≡ (self.old.0, self.old.1 ++ result ∷ []) }
     {
         let deadline = self.present + ticks as u64;
+        put(self.present, deadline, &mut self.ahead);
         self.armed.push_reserved(deadline);
         deadline
     }
@@ -78,6 +117,7 @@ impl Clock {
     {
         if let Some(next) = self.next() {
             self.present = next;
+            self.ahead.remove(0);
         }
     }
 }
