@@ -1,11 +1,11 @@
 -- The next deadline is the first one of those that lie ahead; arming and ticking keep them.
-use Rattle.std.proofs.Common.{◌≡◌, ℕ, zero, suc, ◌+◌, ◌*◌, ◌<◌, ◌≤◌, Bool, true, false, List, [], ◌∷◌, ◌++◌, ◌∙◌, length, take, drop, get_or, refl, sym, ap, subst, arith, Option, Some, None, if◌then◌else◌}
+use Rattle.std.proofs.Common.{◌≡◌, ℕ, zero, suc, ◌+◌, ◌*◌, ◌<◌, ◌≤◌, Bool, true, false, List, [], ◌∷◌, ◌++◌, ◌∙◌, length, get_or, refl, sym, ap, subst, arith, Option, Some, None, if◌then◌else◌}
 use Rattle.std.specs.Prelude.{◌==◌, insert, min, nat_lt, remove, slice_get}
 use Rattle.std.proofs.lemmas.Bool.{eq-eqb, eqb-false, eqb-true, le-ltb, lt-ltb, ltb-false, ltb-true, ne_eqb}
 use Rattle.std.proofs.lemmas.List.{length-append}
 use Rattle.std.proofs.Math.Nat.{min-eq_left, min-eq_right, min-le_left, min_comm}
 use Rattle.um_machine.specs.Time.{least, next_deadline}
-use Rattle.um_matrix.specs.Ahead.{Ascend, IsAhead, with_deadline}
+use Rattle.um_matrix.specs.Ahead.{AreAscending, Ascend, IsAhead, with_deadline}
 
 -- The least deadline of some is that of the same in another order.
 min-swap : (a b c : ℕ) → min a (min b c) ≡ min b (min a c)
@@ -93,6 +93,43 @@ placed-few d (e ∷ ds) = by (nat_lt e d) (e == d) (placed-few d ds)
     by true b rest = omega (arith, rest)
     by false true rest = omega arith
     by false false rest = omega arith
+
+above-low : (low most : ℕ) (ds : List ℕ) (j : ℕ) → Ascend low most ds → j < length ds → low < get_or ds j 0
+above-low low most [] j up inside = absurd (omega (arith, inside))
+above-low low most (d ∷ ds) zero up inside = up.0
+above-low low most (d ∷ ds) (suc j) up inside =
+    let rest = above-low d most ds j up.2 (omega (arith, inside)) in
+    let first = up.0 in omega (arith, rest, first)
+
+pub ascending : (low most : ℕ) (ds : List ℕ) → Ascend low most ds → AreAscending ds
+ascending low most [] up i j on inside = absurd (omega (arith, inside))
+ascending low most (d ∷ ds) up zero zero on inside = omega arith
+ascending low most (d ∷ ds) up zero (suc j) on inside = let rest = above-low d most ds j up.2 (omega (arith, inside)) in omega (arith, rest)
+ascending low most (d ∷ ds) up (suc i) zero on inside = absurd (omega (arith, on))
+ascending low most (d ∷ ds) up (suc i) (suc j) on inside = ascending d most ds up.2 i j (omega (arith, on)) (omega (arith, inside))
+
+-- What a search finds: the deadline itself, or the place behind those below it and before those above it.
+pub placed-among : (d : ℕ) (ds : List ℕ) (i : ℕ) → AreAscending ds → i < length ds → get_or ds i 0 ≡ d → with_deadline d ds ≡ ds
+placed-among d [] i up inside at = absurd (omega (arith, inside))
+placed-among d (e ∷ ds) zero up inside at = rw (le-ltb e d (omega (arith, at)), eq-eqb e d at) refl
+placed-among d (e ∷ ds) (suc i) up inside at =
+    by (nat_lt e d) refl (placed-among d ds i (λ j k on within. up (suc j) (suc k) (omega (arith, on)) (omega (arith, within))) (omega (arith, inside)) at) (up 0 (suc i) (omega arith) inside)
+  where
+    by : (b : Bool) → nat_lt e d ≡ b → with_deadline d ds ≡ ds → e ≤ get_or ds i 0 → (if b then e ∷ with_deadline d ds else if e == d then e ∷ ds else d ∷ e ∷ ds) ≡ e ∷ ds
+    by true below rest first = ap (λ (es : List ℕ). e ∷ es) rest
+    by false below rest first = let least_so = ltb-false e d below in rw (eq-eqb e d (omega (arith, least_so, first, at))) refl
+
+pub placed-between : (d : ℕ) (ds : List ℕ) (i : ℕ) → i ≤ length ds → ((k : ℕ) → k < i → get_or ds k 0 < d) → ((k : ℕ) → i ≤ k → k < length ds → d < get_or ds k 0)
+    → with_deadline d ds ≡ insert ds i d
+placed-between d [] zero inside below above = refl
+placed-between d [] (suc i) inside below above = absurd (omega (arith, inside))
+placed-between d (e ∷ ds) zero inside below above =
+    let first : d < e = above 0 (omega arith) (omega arith) in rw (le-ltb e d (omega (arith, first)), ne_eqb e d (λ same. omega (arith, first, same))) refl
+placed-between d (e ∷ ds) (suc i) inside below above =
+    let first : e < d = below 0 (omega arith) in
+    rw (lt-ltb e d first)
+    (ap (λ (es : List ℕ). e ∷ es)
+     (placed-between d ds i (omega (arith, inside)) (λ k l. below (suc k) (omega (arith, l))) (λ k l m. above (suc k) (omega (arith, l)) (omega (arith, m)))))
 
 -- What lies ahead of a moment.
 pub opened-ahead : IsAhead 0 [] []

@@ -1,11 +1,14 @@
 -- The deadlines that lie ahead, beside all that were armed.
-use Rattle.std.specs.Prelude.{◌≡◌, ◌<◌, ◌≤◌, ◌*◌, ◌==◌, ℕ, nat_lt, if◌then◌else◌, List, [], ◌∷◌, length}
+use Rattle.std.specs.Prelude.{◌≡◌, ◌<◌, ◌≤◌, ◌*◌, ◌==◌, ℕ, nat_lt, if◌then◌else◌, List, [], ◌∷◌, get_or, length}
 use Rattle.um_machine.specs.Time.{next_deadline}
 
 -- Deadlines ascend. All are above a low one, and none is above a greatest one.
 abbrev pub Ascend : ℕ → ℕ → List ℕ → Type 0
 Ascend low most [] = Unit {0}
 Ascend low most (d ∷ ds) = (low < d) × (d ≤ most) × Ascend d most ds
+
+abbrev pub AreAscending : List ℕ → Type 0
+AreAscending ds = (i j : ℕ) → i ≤ j → j < length ds → get_or ds i 0 ≤ get_or ds j 0
 
 -- ascending deadlines with one more at its place, unless it is among them
 abbrev pub with_deadline : ℕ → List ℕ → List ℕ

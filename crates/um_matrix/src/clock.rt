@@ -1,9 +1,9 @@
 //! Virtual time, and the deadlines that were armed.
 
-ghost use Rattle.std.specs.Prelude.{◌≡◌, ◌+◌, ◌<◌, ◌≤◌, ◌*◌, ◌^◌, ◌++◌, ◌∷◌, [], IfOk, MatchOption, if◌then◌else◌, insert, length, nat_lt, unwrap_or, vec_capacity};
+ghost use Rattle.std.specs.Prelude.{◌≡◌, ◌+◌, ◌<◌, ◌≤◌, ◌*◌, ◌^◌, ◌++◌, ◌∷◌, [], IfOk, if◌then◌else◌, length, nat_lt, unwrap_or, vec_capacity};
 ghost use Rattle.um_base.specs.declared.limits.TheConstants.{MOST_WEIGHT};
 ghost use Rattle.um_machine.specs.Time.{next_deadline};
-ghost use Rattle.um_matrix.specs.Ahead.{with_deadline};
+ghost use Rattle.um_matrix.specs.Ahead.{AreAscending, with_deadline};
 
 use std::alloc::Global;
 use std::marker::Model;
@@ -35,33 +35,17 @@ impl Model for Clock {
         × IsAhead c.present c.armed.items c.ahead.items };
 }
 
-/// The place of a deadline among ascending ones, unless it is among them.
-fn place_of(deadline: u64, ahead: &[u64]) -> Option<usize>
-    ensures { MatchOption result (with_deadline deadline ahead.now ≡ ahead.now)
-        (λ i. (i ≤ length ahead.now) × (with_deadline deadline ahead.now ≡ insert ahead.now i deadline)) }
-{
-    for i in 0..ahead.len() {
-        let other = ahead[i];
-        if other == deadline {
-            return None;
-        }
-        if deadline < other {
-            return Some(i);
-        }
-    }
-    Some(ahead.len())
-}
-
 /// Puts a deadline at its place among those that lie ahead, if it lies ahead and isn't among them. It takes no memory.
 fn put(now: u64, deadline: u64, ahead: &mut Vec<u64>)
-    requires { length ahead.old.items < vec_capacity ahead.old }
+    requires room { length ahead.old.items < vec_capacity ahead.old }
+    requires ascend { AreAscending ahead.old.items }
     ensures items { ahead.new.items ≡ if nat_lt now deadline then with_deadline deadline ahead.old.items else ahead.old.items }
     ensures room { vec_capacity ahead.new ≡ vec_capacity ahead.old }
 {
     if deadline <= now {
         return;
     }
-    if let Some(place) = place_of(deadline, ahead.as_slice()) {
+    if let Err(place) = ahead.binary_search(&deadline) {
         let _ = ahead.insert(place, deadline);
     }
 }

@@ -1,6 +1,9 @@
-use Rattle.std.proofs.Common.{◌≡◌, ◌+◌, ◌∙◌, ◌++◌, ◌∷◌, [], ℕ, List, ap, arith, length, length-append, sym}
-use Rattle.um_matrix.proofs.ClockLemmas.{armed-ahead, same-ahead}
+use Rattle.std.proofs.Common.{◌+◌, ◌*◌, ◌∙◌, ◌++◌, ◌∷◌, [], ℕ, List, ap, arith, length, length-append}
+use Rattle.um_matrix.proofs.ClockLemmas.{armed-ahead, ascending, same-ahead}
 use Rattle.um_matrix.proofs.clock.Clock.arm.Goals as goal
+
+pub put-requires-clause-ascend : goal.put-requires-clause-ascend
+put-requires-clause-ascend c = ascending c.self.inside.present (length c.self.inside.armed.items * 4294967296) c.self.inside.ahead.items c.self.invariant.4.ascend
 
 pub invariant_of-self : goal.invariant_of-self
 invariant_of-self c =
