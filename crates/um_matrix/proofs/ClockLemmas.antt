@@ -129,7 +129,7 @@ placed-between d (e ∷ ds) (suc i) inside below above =
     let first : e < d = below 0 (omega arith) in
     rw (lt-ltb e d first)
     (ap (λ (es : List ℕ). e ∷ es)
-     (placed-between d ds i (omega (arith, inside)) (λ k l. below (suc k) (omega (arith, l))) (λ k l m. above (suc k) (omega (arith, l)) (omega (arith, m)))))
+    (placed-between d ds i (omega (arith, inside)) (λ k l. below (suc k) (omega (arith, l))) (λ k l m. above (suc k) (omega (arith, l)) (omega (arith, m)))))
 
 -- What lies ahead of a moment.
 pub opened-ahead : IsAhead 0 [] []

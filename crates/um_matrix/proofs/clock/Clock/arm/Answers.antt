@@ -22,5 +22,5 @@ invariant_of-self c =
       omega (arith, room_ahead, c.put.ensures.room),
       omega (arith, long, soon),
       same-ahead present (armed ++ deadline ∷ []) _ _ _ items c.put.ensures.items
-      (armed-ahead present deadline armed ahead soon (omega (arith, c.ranges.ticks.fits)) c.self.invariant.4),
+          (armed-ahead present deadline armed ahead soon (omega (arith, c.ranges.ticks.fits)) c.self.invariant.4),
     )
