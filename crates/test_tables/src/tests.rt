@@ -203,7 +203,7 @@ fn objects(alloc: Global) -> Result<ObjectCells, OutOfMemory>
 fn bytes(alloc: Global) -> Result<Bytes, OutOfMemory> {
     let mut partitions = Vec::new(alloc);
     partitions.resize(64, 0)?;
-    Ok(Bytes::new(partitions, Vec::new(alloc)))
+    Bytes::new(alloc, partitions, Vec::new(alloc))
 }
 
 /// How many events the log of the tables has room for.

@@ -147,6 +147,7 @@ impl Core {
     }
 
     /// Has a processor that its turn left without a step tend to time, if it has no thread.
+    #[inline(never)]
     fn tend_if_idle(&mut self, image: &Image, cpu: u8) -> bool
         requires refused { (e : FineStep) × IsTurnRefused image.now self.old cpu e }
         requires rodata { self.old.sites.rodata ≡ rodata_of image.now }
@@ -158,6 +159,7 @@ impl Core {
     }
 
     /// Has a processor make its next step that is chosen, if it has one.
+    #[inline(always)]
     fn advance(&mut self, image: &Image, cpu: u8) -> bool
         requires given { IsGiven image.now }
         requires rodata { self.old.sites.rodata ≡ rodata_of image.now }

@@ -35,7 +35,7 @@ fn tables_of(alloc: Global, state: OpeningState, most: usize) -> Result<Tables, 
     let scheduler = scheduler(alloc, &state)?;
     let joins = joins(alloc, &state)?;
     let parts = state.into_parts();
-    let memory = Bytes::new(parts.memory, parts.stacks);
+    let memory = Bytes::new(alloc, parts.memory, parts.stacks)?;
     let heap = heap(alloc, parts.pools)?;
     let log = Vec::with_capacity(alloc, most)?;
     let clock = Clock::new(alloc, log.capacity())?;

@@ -2,7 +2,9 @@
 use Rattle.std.proofs.Common.{◌≡◌, ℕ, Bool, true, false, [], ◌∷◌, drop, refl, sym, ap, ◌∙◌}
 use Rattle.std.specs.Prelude.{nat_lt, if◌then◌else◌}
 use Rattle.std.proofs.lemmas.Bool.{false≢true}
+use Rattle.um_base.specs.declared.ask.Ask.{Ask}
 use Rattle.um_base.specs.declared.image.Image.{Image}
+use Rattle.um_base.specs.declared.names.Addr.{Addr}
 use Rattle.um_machine.specs.declared.pending.Pending.{Pending}
 use Rattle.um_machine.specs.Order.{Steps}
 use Rattle.um_base.specs.declared.limits.TheConstants.{ROWS}
@@ -13,18 +15,16 @@ use Rattle.um_fine.specs.Follows.{filled_up}
 use Rattle.um_fine.specs.Places.{Todo, Todos, but, drops, fine_steps, next_steps, passes}
 use Rattle.um_processor.specs.declared.phase.Phase.{Phase}
 use Rattle.um_processor.specs.declared.running.Running.{Running}
-use Rattle.um_processor.specs.Phases.{act_phase, behind_phase, first_of, first_phase, has_visits, is_direct, is_over, passed_to}
+use Rattle.um_processor.specs.Phases.{behind_phase, first_of, first_phase, has_visits, is_direct, is_over, is_own, is_untimed, passed_to}
 use Rattle.um_tables.specs.Contexts.{steps_behind}
 use Rattle.um_processor.specs.Processors.{Ready, behind_errand, processor_of, ready_for, ready_of, refilled, todo_in, visiting, with_todo}
 use Rattle.um_processor.proofs.Phased.{dropped, first-own, full, own-is, passed, places, readied, untimed-shows}
 
 module _ (image : Image) (r : Running) (rest : Steps) where
   -- the fine steps of a direct step are those from its first phase on, whatever is ready
-  direct-places : (p : Pending) → is_direct r.context.value p ≡ true → (k : Ready)
+  direct-places : (p : Pending) → is_direct p ≡ true → (k : Ready)
       → todo_in (first_phase image r.context.value p Pending.Resume) (p ∷ rest) k ≡ next_steps image r.context.value (p ∷ rest)
-  direct-places (Pending.Work a ask) h k =
-      ap (λ (b : Bool). todo_in (act_phase image r.context.value (Pending.Work a ask) b) (Pending.Work a ask ∷ rest) k) h
-      ∙ untimed-shows image r.context.value rest a ask h
+  direct-places (Pending.Work a ask) h k = absurd (false≢true h)
   direct-places Pending.Resume h k = absurd (false≢true h)
   direct-places (Pending.Inherit who) h k = absurd (false≢true h)
   direct-places (Pending.Drops from) h k = absurd (false≢true h)
@@ -37,14 +37,24 @@ module _ (image : Image) (r : Running) (rest : Steps) where
   direct-places (Pending.ClearInit a) h k = absurd (false≢true h)
   direct-places p h k = refl
 
-  pub direct-goes : (p : Pending) → r.context.value.pending ≡ p ∷ rest → is_direct r.context.value p ≡ true
+  -- a processor goes on in a phase from which the steps are those of the thread's next step
+  goes-on : (phase : Phase) (p : Pending) → is_own phase ≡ true → r.context.value.pending ≡ p ∷ rest
+      → ((k : Ready) → todo_in phase (p ∷ rest) k ≡ next_steps image r.context.value (p ∷ rest))
+      → processor_of (record r { visited = false; phase = phase }) ≡ refilled image r
+  goes-on phase p own at steps =
+      own-is phase (record r { visited = false; phase = phase }) own
+      ∙ ap (λ (s : Steps). with_todo r (todo_in phase s (ready_of r))) at
+      ∙ ap (with_todo r) (steps (ready_of r))
+      ∙ ap (λ (s : Steps). with_todo r (next_steps image r.context.value s)) (sym at)
+
+  pub direct-goes : (p : Pending) → r.context.value.pending ≡ p ∷ rest → is_direct p ≡ true
       → processor_of (record r { visited = false; phase = first_phase image r.context.value p Pending.Resume }) ≡ refilled image r
   direct-goes p at h =
-      let phase = first_phase image r.context.value p Pending.Resume in
-      own-is phase (record r { visited = false; phase = phase }) (first-own image r.context.value p Pending.Resume)
-      ∙ ap (λ (steps : Steps). with_todo r (todo_in phase steps (ready_of r))) at
-      ∙ ap (with_todo r) (direct-places p h (ready_of r))
-      ∙ ap (λ (steps : Steps). with_todo r (next_steps image r.context.value steps)) (sym at)
+      goes-on (first_phase image r.context.value p Pending.Resume) p (first-own image r.context.value p Pending.Resume) at (direct-places p h)
+
+  pub untimed-goes : (a : Addr) (ask : Ask) → r.context.value.pending ≡ Pending.Work a ask ∷ rest → is_untimed r.context.value ask ≡ true
+      → processor_of (record r { visited = false; phase = Phase.Show }) ≡ refilled image r
+  untimed-goes a ask at h = goes-on Phase.Show (Pending.Work a ask) refl at (λ (k : Ready). untimed-shows image r.context.value rest a ask h)
 
 plain-next : (image : Image) (c : Context) (p : Pending) (rest : Steps) → has_visits p ≡ false → next_steps image c (p ∷ rest) ≡ fine_steps image c p rest
 plain-next image c Pending.Resume rest h = absurd (false≢true (sym h))

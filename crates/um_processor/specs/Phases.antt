@@ -189,20 +189,20 @@ has_visits (Pending.Inherit who) = true
 has_visits (Pending.Drops from) = true
 has_visits p = false
 
--- whether no visits come before a step, and its fine steps name no queue, no new thread, no cell and no mark
-abbrev pub is_direct : Context → Pending → Bool
-is_direct c Pending.Resume = false
-is_direct c (Pending.Inherit who) = false
-is_direct c (Pending.Drops from) = false
-is_direct c (Pending.Probe a amount) = false
-is_direct c (Pending.CopyIn a amount) = false
-is_direct c (Pending.Start who script stack priority mode) = false
-is_direct c (Pending.Arm ticks) = false
-is_direct c (Pending.FutexWait a value timeout) = false
-is_direct c (Pending.Join who timeout) = false
-is_direct c (Pending.Work a ask) = is_untimed c ask
-is_direct c (Pending.ClearInit a) = false
-is_direct c p = true
+-- by its kind alone, whether no visits come before a step, and its fine steps name no queue, no new thread, no cell and no mark
+abbrev pub is_direct : Pending → Bool
+is_direct Pending.Resume = false
+is_direct (Pending.Inherit who) = false
+is_direct (Pending.Drops from) = false
+is_direct (Pending.Probe a amount) = false
+is_direct (Pending.CopyIn a amount) = false
+is_direct (Pending.Start who script stack priority mode) = false
+is_direct (Pending.Arm ticks) = false
+is_direct (Pending.FutexWait a value timeout) = false
+is_direct (Pending.Join who timeout) = false
+is_direct (Pending.Work a ask) = false
+is_direct (Pending.ClearInit a) = false
+is_direct p = true
 
 abbrev pub phase_of : Image → Context → Steps → Phase
 phase_of image c steps = first_phase image c (first_of steps) (first_of (drop 1 steps))

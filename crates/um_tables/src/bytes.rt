@@ -2,7 +2,7 @@
 
 mod futexes;
 
-ghost use Rattle.std.specs.Prelude.{◌≡◌, [], ◌+◌, ◌<◌, ◌≤◌, ◌^◌, length, replicate, slice_index, ℕ, IsTrue};
+ghost use Rattle.std.specs.Prelude.{◌≡◌, [], ◌+◌, ◌<◌, ◌≤◌, ◌^◌, length, replicate, slice_index, ℕ, IfOk, IsTrue};
 ghost use Rattle.um_base.specs.{
   declared.act.Act.{Act},
   declared.limits.TheConstants.{AREA_SIZE},
@@ -20,9 +20,11 @@ ghost use Rattle.um_tables.specs.MemoryActs.{has_room, memory_answered, memory_g
 
 use crate::memory_act::{MemoryAct, MemorySaid};
 use crate::pieces::copies_first;
+use std::alloc::Global;
 use std::marker::Model;
 use um_base::{
-    AREA_SIZE, Found, Image, PARTITION_AREA, Piece, RODATA, Range, Row, STACK_AREA, Setup, THREADS,
+    AREA_SIZE, Found, Image, OutOfMemory, PARTITION_AREA, Piece, RODATA, Range, Row, STACK_AREA,
+    Setup, THREADS,
 };
 use um_machine::Waiters;
 use um_steps::bytes::{clear, le_value, part, write};
@@ -42,7 +44,7 @@ const NOTHING: MemorySaid = MemorySaid {
 pub struct Bytes {
     memory: Vec<u8>,
     stacks: Vec<u8>,
-    futexes: Waiters,
+    futexes: Box<Waiters>,
     /// By thread index: the number of its note when it began to wait here.
     noted: [u32; THREADS],
 }
@@ -57,7 +59,7 @@ impl Model for Bytes {
     ghost view = { λ m. record {
       memory = m.memory.items;
       stacks = m.stacks.items;
-      futexes = m.futexes;
+      futexes = m.futexes.value;
       noted = m.noted;
     } };
 
@@ -86,16 +88,16 @@ fn stack_of(image: &Image, stack: Row) -> Option<Range>
 
 impl Bytes {
     /// Makes the contents from these two areas, where nobody waits.
-    pub fn new(memory: Vec<u8>, stacks: Vec<u8>) -> Bytes
+    pub fn new(alloc: Global, memory: Vec<u8>, stacks: Vec<u8>) -> Result<Bytes, OutOfMemory>
         requires { length stacks.items ≤ AREA_SIZE }
-        ensures { result ≡ record { memory = memory.items; stacks = stacks.items; futexes = []; noted = no_notes } }
+        ensures { IfOk result (λ b. b ≡ record { memory = memory.items; stacks = stacks.items; futexes = []; noted = no_notes }) }
     {
-        Bytes {
+        Ok(Bytes {
             memory,
             stacks,
-            futexes: Waiters::new(),
+            futexes: Box::new(alloc, Waiters::new())?,
             noted: [0; THREADS],
-        }
+        })
     }
 
     /// The bytes of the area of the partitions.

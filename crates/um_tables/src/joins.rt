@@ -30,7 +30,7 @@ use um_steps::waits::{is_joined, is_joining};
 /// Who waits for the end of a thread, which threads nobody joins any more, and who sleeps.
 #[derive(Drop)]
 pub struct Joins {
-    waiters: Waiters,
+    waiters: Box<Waiters>,
     /// By thread index: the number of its note when it began to wait here.
     noted: [u32; THREADS],
     /// By thread index: nobody joins it.
@@ -47,7 +47,7 @@ impl Model for Joins {
     ghost Value = { Contents };
 
     ghost view = { λ j. record {
-      waiters = j.waiters;
+      waiters = j.waiters.value;
       noted = j.noted;
       shut = j.shut;
       asleep = j.asleep.items;
@@ -89,7 +89,7 @@ impl Joins {
         ensures { IfOk result (λ j. j ≡ record { waiters = []; noted = no_notes; shut = shut; asleep = replicate THREADS None }) }
     {
         Ok(Joins {
-            waiters: Waiters::new(),
+            waiters: Box::new(alloc, Waiters::new())?,
             noted: [0; THREADS],
             shut,
             asleep: places(alloc)?,

@@ -1,8 +1,8 @@
 //! A look for a thread that was aborted, which comes when the thread waits again in a later life.
 
 ghost use Rattle.std.specs.Prelude.{◌≡◌, ◌<◌, length};
+ghost use Rattle.um_base.specs.Lawful.{IsLawful};
 ghost use Rattle.um_machine.specs.Memory.{rodata_of};
-ghost use Rattle.um_steps.specs.Given.{IsGiven};
 
 use std::test::Fail;
 use um_base::{Act, Image};
@@ -12,7 +12,7 @@ use um_samples::LATER_LIFE;
 
 /// Has a processor make this many steps, or fewer if it can make no other one. Returns how many it made.
 fn steps(core: &mut Core, image: &Image, cpu: u8, most: u32) -> u32
-    requires given { IsGiven image.now }
+    requires lawful { IsLawful image.now }
     requires rodata { core.old.sites.rodata ≡ rodata_of image.now }
     requires three { length core.old.processors ≡ 3 }
     requires cpu { cpu < 3 }

@@ -23,13 +23,22 @@ fn an_end_wakes_who_joins(rt: HostRuntime) -> Result<(), Fail> {
     is_made!(rt, sites.join(here, &joined, TARGET, Timeout::NoWait), said => said == busy);
     is_made!(rt, sites.join(here, &joined, joined.thread, Timeout::Forever), said => said == own);
     is_made!(rt, sites.join(here, &joined, TARGET, Timeout::Forever), said => said == Answer::Wait);
-    for (found, many) in [(true, 1), (false, 0)] {
-        is_made!(rt, sites.leave(here, TARGET, &mut woken), said => said == found && woken.len() == many);
-    }
+    is_made!(rt, sites.leave(here, TARGET, &mut woken), found => found && woken.len() == 1);
+    is_made!(rt, sites.leave(here, TARGET, &mut woken), found => !found && woken.len() == 0);
     is_made!(rt, sites.join(here, &joined, TARGET, Timeout::Forever), said => said == over);
     is_made!(rt, sites.unshut(here, TARGET), () => true);
     is_made!(rt, sites.join(here, &joined, TARGET, Timeout::Forever), said => said == Answer::Wait);
     Ok(())
+}
+
+/// A look at the joins' cell for a thread whose wait ended at this deadline.
+fn late(who: ThreadIx, deadline: u64) -> Look {
+    Look::Late {
+        thread: TARGET,
+        who,
+        deadline,
+        site: 308,
+    }
 }
 
 /// A join ends at its deadline, and not at another one.
@@ -40,15 +49,9 @@ fn a_join_ends_at_its_deadline(rt: HostRuntime) -> Result<(), Fail> {
     let mut sites = tables(rt.alloc())?;
     let joined = seeker(Some(4));
     is_made!(rt, sites.join(here, &joined, TARGET, Timeout::Ticks(4)), said => said == Answer::Wait);
-    for (deadline, found) in [(5, false), (4, true), (4, false)] {
-        let late = Look::Late {
-            thread: TARGET,
-            who: joined.thread,
-            deadline,
-            site: 308,
-        };
-        is_made!(rt, sites.look(here, Waiting::Joins, &late), said => said == found);
-    }
+    is_made!(rt, sites.look(here, Waiting::Joins, &late(joined.thread, 5)), found => !found);
+    is_made!(rt, sites.look(here, Waiting::Joins, &late(joined.thread, 4)), found => found);
+    is_made!(rt, sites.look(here, Waiting::Joins, &late(joined.thread, 4)), found => !found);
     Ok(())
 }
 
@@ -61,8 +64,7 @@ fn a_sleeper_is_roused_once(rt: HostRuntime) -> Result<(), Fail> {
     let mut context = Box::new(rt.alloc(), Context::idle())?;
     let who = ThreadIx(context.thread());
     is_made!(rt, sites.sleep(here, &mut context), () => true);
-    for found in [true, false] {
-        is_made!(rt, sites.rouse(here, who, &mut context), said => said == found);
-    }
+    is_made!(rt, sites.rouse(here, who, &mut context), found => found);
+    is_made!(rt, sites.rouse(here, who, &mut context), found => !found);
     Ok(())
 }

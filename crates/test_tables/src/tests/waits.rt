@@ -1,5 +1,7 @@
 //! Marks of the clock, and those who wait at the cells.
 
+ghost use Rattle.std.specs.Prelude.{◌≡◌};
+
 use super::{image, tables, waiter};
 use std::test::Fail;
 use um_base::{Addr, Answer, Ask, Errno, Reply, Row, ThreadIx, Timeout};
@@ -71,10 +73,36 @@ fn a_look_finds_who_waits_by_an_older_note(rt: HostRuntime) -> Result<(), Fail> 
         timeout: Timeout::Forever,
     });
     is_made!(rt, sites.work(here, Row(3), OBJECT, &take, 6, &mut outcome), () => outcome.answer == Answer::Wait);
-    for (before, found) in [(6, false), (7, true), (7, false)] {
-        is_made!(rt, sites.look(here, cell, &aborted(before)), said => said == found);
-    }
+    is_made!(rt, sites.look(here, cell, &aborted(6)), found => !found);
+    is_made!(rt, sites.look(here, cell, &aborted(7)), found => found);
+    is_made!(rt, sites.look(here, cell, &aborted(7)), found => !found);
     Ok(())
+}
+
+/// An address where no futex is.
+const NOWHERE: Addr = Addr(0x2000_0000);
+
+/// A wait there.
+fn wait(allowed: bool) -> FutexWait
+    ensures { result.seeker.thread.0 ≡ 2 }
+{
+    FutexWait {
+        seeker: seeker(None),
+        addr: NOWHERE,
+        value: 0,
+        allowed,
+        timeout: Timeout::Forever,
+    }
+}
+
+/// A wake there.
+fn wake(allowed: bool) -> FutexWake {
+    FutexWake {
+        thread: WAITER,
+        addr: NOWHERE,
+        allowed,
+        all: true,
+    }
 }
 
 /// Where no futex is, a call on one is told so, but only if it may read there.
@@ -84,25 +112,12 @@ fn a_call_on_no_futex_is_refused(rt: HostRuntime) -> Result<(), Fail> {
     let here = &here!(image, 0);
     let mut sites = tables(rt.alloc())?;
     let mut woken = Woken::new();
-    let addr = Addr(0x2000_0000);
-    for (allowed, errno) in [(false, Errno::EACCES), (true, Errno::EINVAL)] {
-        let refused = Answer::Now(Reply::Fail(errno));
-        let wait = FutexWait {
-            seeker: seeker(None),
-            addr,
-            value: 0,
-            allowed,
-            timeout: Timeout::Forever,
-        };
-        is_made!(rt, sites.futex_wait(here, &wait), said => said == refused);
-        let wake = FutexWake {
-            thread: WAITER,
-            addr,
-            allowed,
-            all: true,
-        };
-        is_made!(rt, sites.futex_wake(here, &wake, &mut woken), said => said == refused);
-    }
+    let forbidden = Answer::Now(Reply::Fail(Errno::EACCES));
+    let invalid = Answer::Now(Reply::Fail(Errno::EINVAL));
+    is_made!(rt, sites.futex_wait(here, &wait(false)), said => said == forbidden);
+    is_made!(rt, sites.futex_wake(here, &wake(false), &mut woken), said => said == forbidden);
+    is_made!(rt, sites.futex_wait(here, &wait(true)), said => said == invalid);
+    is_made!(rt, sites.futex_wake(here, &wake(true), &mut woken), said => said == invalid);
     Ok(())
 }
 

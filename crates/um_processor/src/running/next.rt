@@ -107,13 +107,13 @@ pub fn own_phase(phase: Phase) -> Phase
     if is_own(phase) { phase } else { Phase::Park }
 }
 
-/// Whether no visits come before a step, and its fine steps name no queue, no new thread, no cell and no mark.
+/// By its kind alone, whether no visits come before a step, and its fine steps name no queue, no new thread, no cell and no mark.
 #[inline(always)]
-fn is_direct(context: &Context, step: &Pending) -> bool
-    ensures { result ≡ is_direct context.now step.now }
+fn is_direct(step: &Pending) -> bool
+    ensures { result ≡ is_direct step.now }
 {
     match step {
-        Pending::Work { ask, .. } => is_untimed(context, ask),
+        Pending::Work { .. } => false,
         Pending::Arm { .. } | Pending::Join { .. } | Pending::FutexWait { .. } => false,
         Pending::ClearInit { .. } => false,
         Pending::Resume | Pending::Inherit { .. } | Pending::Drops { .. } => false,
@@ -295,11 +295,26 @@ impl Running {
         ensures { processor_of self.new ≡ refilled image.now self.old }
     {
         match self.context.first() {
-            Some(step) if is_direct(&self.context, &step) => {
+            Some(step) if is_direct(&step) => {
                 self.visited = false;
                 self.phase = first_phase(image, &self.context, &step, &Pending::Resume);
             }
             None => self.ends_turn(),
+            Some(Pending::Work { .. }) => self.expands_work(image),
+            _ => self.expands_far(image),
+        }
+    }
+
+    /// The same for a call on an object. Most of these can't wait and arm nothing.
+    #[inline(never)]
+    fn expands_work(&mut self, image: &Image)
+        ensures { processor_of self.new ≡ refilled image.now self.old }
+    {
+        match self.context.first() {
+            Some(Pending::Work { ask, .. }) if is_untimed(&self.context, &ask) => {
+                self.visited = false;
+                self.phase = Phase::Show;
+            }
             _ => self.expands_far(image),
         }
     }

@@ -23,7 +23,7 @@ returns-clause-sites c =
     let objects : c.in_ok-objects.objects ≡ map kept_by s.objects =
     c.in_ok-objects.ensures.cells ∙ ap (λ (i : Image). map kept_by (objects_from i.boots 0 i.objects)) c.image.ensures.value ∙ ap (map kept_by) (sym c.requires.fresh.objects) in
     let all : length s.objects ≡ ROWS = sym (length-map s.objects kept_by) ∙ ap (λ (cells : List ObjectCell). length cells) (sym objects) ∙ c.in_ok-objects.ensures.all in
-    let bytes = c.new-memory.ensures ∙ (λ j. record { memory = parts.memory j; stacks = parts.stacks j; futexes = []; noted = no_notes }) in
+    let bytes = c.in_ok-memory.ensures ∙ (λ j. record { memory = parts.memory j; stacks = parts.stacks j; futexes = []; noted = no_notes }) in
     let keeps : Keeps s c.new-tables.result = subst (λ (t : Sited). Keeps s t) (sym c.new-tables.ensures)
     (record {
       rows = c.in_ok-rows.ensures.words;

@@ -2,7 +2,7 @@ use Rattle.std.proofs.Common.{◌≡◌, ◌∷◌, drop, false, ap, sym, subst,
 use Rattle.um_machine.specs.declared.pending.Pending.TheVariants as Pending
 use Rattle.um_fine.specs.Context.{Context}
 use Rattle.um_processor.specs.declared.phase.Phase.{Phase}
-use Rattle.um_processor.specs.Phases.{first_phase, is_direct}
+use Rattle.um_processor.specs.Phases.{first_phase}
 use Rattle.um_processor.specs.Processors.{processor_of}
 use Rattle.um_processor.proofs.Expanded.{direct-goes}
 use Rattle.um_processor.proofs.running.Running.expands.Goals as goal
@@ -14,6 +14,6 @@ returns-in-Some c =
     let p = c.in-Some.step in
     let steps = subst (λ (own : Context). own.pending ≡ p ∷ drop 1 own.pending) c.deref.ensures c.in-Some.ensures.step in
     let phase = c.first_phase-self.ensures ∙ ap (λ (own : Context). first_phase image own p Pending.Resume) c.deref-in-Some.ensures in
-    let direct = ap (λ (own : Context). is_direct own p) (sym c.deref-in-Some-1.ensures) ∙ sym c.is_direct.ensures ∙ c.if-is_direct.true in
+    let direct = sym c.is_direct.ensures ∙ c.if-is_direct.true in
     ap (λ (phase : Phase). processor_of (record r { visited = false; phase = phase })) phase
     ∙ direct-goes image r _ p steps direct
