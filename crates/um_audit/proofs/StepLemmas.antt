@@ -1,11 +1,7 @@
 -- Which line a step says, and what is left where no step says it.
-use Rattle.std.proofs.Common.{◌≡◌, inl, inr, ℕ, ◌<◌, ◌≤◌, Bool, true, false, List, [], ◌∷◌, ◌++◌, length, sym, ap, ◌∙◌, refl, subst, arith, Option, Some, None, slice_get, slice_index_or}
+use Rattle.std.proofs.Common.{◌≡◌, inl, inr, ℕ, ◌<◌, ◌≤◌, true, false, List, [], ◌∷◌, ◌++◌, length, sym, ap, ◌∙◌, refl, subst, arith, Option, Some, None, slice_get, slice_index_or}
 use Rattle.std.specs.Prelude.{IsTrue, codes}
 use Rattle.std.proofs.Math.ListN.{get_or-eq_default}
-use Rattle.std.proofs.lemmas.Bool.Decides.{Decides-eqb}
-use Rattle.std.proofs.lemmas.Slice.Eq.{starts_is}
-use Rattle.std.proofs.Common.{eqb}
-use Rattle.std.specs.List.{starts_with}
 use Rattle.um_base.specs.declared.act.Act.{Act}
 use Rattle.um_base.specs.declared.act.Event.{Event}
 use Rattle.um_base.specs.declared.image.Image.{Image}
@@ -127,10 +123,11 @@ unfolding event_line
 line-begins image line event is = begins_with (thread_text image event.thread.0) (act_text image event.act) line is
 
 -- a line that doesn't begin as a thread's lines do is none of its lines
-pub others-line : (image : Image) (line beginning : List ℕ) (s : State) (t : ℕ) (r : Bool) → beginning ≡ thread_text image t ++ codes " " → r ≡ starts_with eqb line beginning → r ≡ false → IsNoThreadsLine image line t s
-others-line image line beginning s t r name tells apart act s2 is step =
+pub others-line : (image : Image) (line beginning : List ℕ) (s : State) (t : ℕ) → beginning ≡ thread_text image t ++ codes " "
+    → ((more : List ℕ) → line ≡ beginning ++ more → ⊥) → IsNoThreadsLine image line t s
+others-line image line beginning s t name apart act s2 is step =
     let cut = line-begins image line (event_of t act) is in
-    let yes_it_does : r ≡ true = (starts_is Decides-eqb line beginning r tells).1 cut.0 (cut.1 ∙ ap (λ (front : List ℕ). front ++ cut.0) (sym name)) in cc
+    apart cut.0 (cut.1 ∙ ap (λ (front : List ℕ). front ++ cut.0) (sym name))
 
 -- no thread has a line that none below a number has
 pub none-below : (image : Image) (line : List ℕ) (s : State) (n : ℕ) → length s.threads ≡ THREADS → THREADS ≤ n → ((t : ℕ) → t < n → IsNoThreadsLine image line t s) → IsNoStepLine image line s

@@ -1,8 +1,7 @@
 //! Which line is that of a step. A line is compared with the lines of the steps that its thread may make, and the step whose line is the
 //! same is made.
 
-ghost use Rattle.std.specs.Prelude.{◌≡◌, ◌<◌, ◌≤◌, ◌++◌, IfSome, IfNone, Some, None, false, true, slice_get, vec_capacity, codes};
-ghost use Rattle.um_trace.specs.Names.{thread_text};
+ghost use Rattle.std.specs.Prelude.{◌≡◌, ◌<◌, ◌≤◌, ◌++◌, ℕ, List, IfSome, IfNone, Some, None, false, true, slice_get, vec_capacity};
 ghost use Rattle.um_machine.specs.{
   State.{thread_at},
   declared.pending.Pending.{Pending},
@@ -152,26 +151,15 @@ fn by_thread(
     }
 }
 
-/// The same, with a first look at how the line begins: a thread's lines begin with its name.
-fn by_named(
-    tables: &Tables,
-    image: &Image,
-    t: usize,
-    beginning: &[u8],
-    line: &[u8],
-    room: &mut Vec<u8>,
-) -> Option<Choice>
-    requires thread { t < THREADS }
-    requires beginning { beginning.now ≡ thread_text image.now t ++ codes " " }
-    requires room { LINE_ROOM ≤ vec_capacity room.old }
-    ensures some { IfSome result (λ choice. IsLineChoice image.now line.now tables.now t choice) }
-    ensures none { IfNone result (IsNoThreadsLine image.now line.now t tables.now) }
-    ensures capacity { vec_capacity room.old ≤ vec_capacity room.new }
+/// Whether a line begins with these bytes. The lines of most threads differ in the byte before the space, which is looked at first.
+fn begins(line: &[u8], beginning: &[u8]) -> bool
+    ensures { result ≡ false → (more : List ℕ) → line.now ≡ beginning.now ++ more → ⊥ }
 {
-    if !line.starts_with(beginning) {
-        return None;
+    let place = beginning.len().saturating_sub(2);
+    if place < beginning.len() && place < line.len() && line[place] != beginning[place] {
+        return false;
     }
-    by_thread(tables, image, t, line, room)
+    line.starts_with(beginning)
 }
 
 /// A thread and a step of it, if the line is that of one. The line begins with the thread's object.
@@ -191,7 +179,10 @@ fn choice_of(
 {
     let _threads = tables.threads().len();
     for (t, name) in names.iter().enumerate() {
-        match by_named(tables, image, t, name.as_slice(), line, room) {
+        if !begins(line, name.as_slice()) {
+            continue;
+        }
+        match by_thread(tables, image, t, line, room) {
             Some(choice) => return Some((t, choice)),
             None => {}
         }
