@@ -15,7 +15,7 @@ NAMES, TABLES = 'a list of names, as ["p"]', "an array of tables"
 # The keys of each place, each with its type.
 KEYS = {
     "": {"version": NUMBER, "mpu": TEXT, "regions": NUMBER, "oops": TEXT, "rodata": BYTES}
-    | dict.fromkeys(["pool", "partition", "domain", "object", "boot", "script"], TABLES),
+    | dict.fromkeys(["pool", "partition", "domain", "object", "boot", "script", "futex"], TABLES),
     "pool": {"name": TEXT, "size": NUMBER},
     "partition": {"name": TEXT, "size": NUMBER, "attr": TEXT, "data": BYTES, "vars": "a list of tables, the variables"},
     "vars": {"name": TEXT, "size": NUMBER, "align": NUMBER, "data": BYTES},
@@ -24,10 +24,11 @@ KEYS = {
     | dict.fromkeys(["msg_size", "max_msgs", "entries"], NUMBER),
     "boot": dict.fromkeys(["thread", "stack", "script", "domain", "mode", "pool"], TEXT) | {"priority": NUMBER, "grants": NAMES},
     "script": {"name": TEXT, "lines": 'a list of script lines, as ["set r0 1"]'},
+    "futex": {"name": TEXT, "partition": TEXT, "offset": NUMBER},
 }  # fmt: skip
 KEYS_OF_KIND = {
     "thread": [], "thread_stack": ["size"], "sem": ["count", "limit"], "mutex": ["init"], "msgq": ["msg_size", "max_msgs"],
-    "stack": ["entries"], "pipe": ["size"],
+    "stack": ["entries"], "pipe": ["size"], "timer": [],
 }  # fmt: skip
 KINDS = list(KEYS_OF_KIND)
 WORDS = {
@@ -67,7 +68,7 @@ def not_toml(text: str, said: str) -> Fault:
         return Fault("NotToml", len(text.rstrip("\n")), len(text), [f"{what}: the text ends here"])
     start = sum(len(one) + 1 for one in lines[: int(line) - 1]) + int(column) - 1
     here, hints = lines[int(line) - 1], []
-    if header := re.match(r"\s*\[(pool|partition|domain|object|boot|script)\]", here):
+    if header := re.match(r"\s*\[(pool|partition|domain|object|boot|script|futex)\]", here):
         hints = [f"the entries of a section begin with two brackets; perhaps: [[{header[1]}]]"]
     elif large := LARGE_NUMBER.search(here):
         size = int(large[1]) * (1024 if large[2] in "Kk" else 1024 * 1024)
@@ -155,6 +156,8 @@ def bad_name(description: Description, words: str, rest: list) -> Fault:
 def duplicate(description: Description, words: str, rest: list) -> Fault:
     path = path_of(rest[-1])
     value, mine = description.get(path), description.spot(path)
+    if path[0] == "futex" and path[-1] == "offset":
+        return one_address(description, words, path)
     same = [
         span
         for other, span in description.places.values.items()
@@ -165,6 +168,14 @@ def duplicate(description: Description, words: str, rest: list) -> Fault:
     if same:
         lines.append(f"{value} stands in line {description.text[: same[0].start].count(chr(10)) + 1} already")
     return at(description, words, path, lines)
+
+
+def one_address(description: Description, words: str, path: tuple) -> Fault:
+    """A futex that lies where one before it does."""
+    entries = description.entries("futex")
+    mine = entries[path[1]]
+    name = next(entry["name"] for entry in entries if (entry["partition"], entry["offset"]) == (mine["partition"], mine["offset"]))
+    return at(description, words, path, ["expected: another offset: no two futexes have one address", f"{name} lies there already"])
 
 
 def is_same_use(path: tuple, other: tuple) -> bool:
@@ -191,7 +202,7 @@ def unknown_name(description: Description, words: str, rest: list) -> Fault:
 
 def used_as(description: Description, name) -> list:
     """What a name stands for, where it is that of something else."""
-    for section in ("pool", "partition", "domain", "object", "script"):
+    for section in ("pool", "partition", "domain", "object", "script", "futex"):
         for entry in description.entries(section):
             if entry.get("name") == name:
                 return [f"{name} is a {entry.get('kind', section) if section == 'object' else section}"]
@@ -216,6 +227,8 @@ def limit(description: Description, words: str, rest: list) -> Fault:
         return at(description, words, path, [f"expected: at most {bound} bytes, two digits each; there are {len(value) // 2}"])
     if path[-1] == "vars":
         return at(description, words, path, [f"the variables of a partition end behind at most {bound} bytes"])
+    if counted == "offset" and value == bound:
+        return at(description, words, path, ["a futex has four bytes, and its partition has fewer"])
     end = "at least" if isinstance(value, int) and value < bound else "at most"
     why = " (its limit)" if counted == "count" and end == "at most" and bound else ""
     return at(description, words, path, [f"expected: {counted} of {end} {bound}{why}; it is {value}"])

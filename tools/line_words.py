@@ -9,12 +9,11 @@ from script_lines import FORMS, KINDS, OPERANDS, fits, form_of, letters_of
 COLUMN = re.compile(r"(.*):(\d+)")
 MOST_WEIGHT = 400_000
 MOST_PERMUTED = 5
-NO_TIME = "calls with time aren't modelled, as timeouts with an end aren't"
+NO_TIME = "time passes only while threads wait: a call with K_TICKS(N) waits at most N ticks"
 NOT_MODELLED = {
     "k_sleep": NO_TIME, "k_msleep": NO_TIME, "k_usleep": NO_TIME, "k_busy_wait": NO_TIME, "k_yield": "any ready thread may run at any time",
     "k_object_free": "an object goes when its last permission does: k_object_release", "k_free": "memory isn't allocated by threads",
-    "k_malloc": "memory isn't allocated by threads", "k_thread_abort": "a thread ends itself: by its last line, or by k_oops",
-    "k_thread_join": "a thread can wait on a semaphore that the other one gives",
+    "k_malloc": "memory isn't allocated by threads",
 }  # fmt: skip
 
 
@@ -68,7 +67,9 @@ def near(word: str, words: list) -> list:
 def range_words(letter: str, word: str) -> list:
     if "+" in word:
         return ["a place is at most 65536 bytes behind its name"]
-    return {"N": ["it is from 1 to 1000"], "I": ["it is from -128 to 127"], "n": ["it is 1, 2 or 4"]}.get(letter, ["it is at most 4294967295"])
+    return {
+        "N": ["it is from 1 to 1000"], "I": ["it is from -128 to 127"], "n": ["it is 1, 2 or 4"], "W": ["it is from 1 to 1000000 ticks"],
+    }.get(letter, ["it is at most 4294967295"])  # fmt: skip
 
 
 def word_words(description: Description, letter: str, word: str) -> list:
@@ -76,13 +77,14 @@ def word_words(description: Description, letter: str, word: str) -> list:
     if re.fullmatch("0[xX][0-9a-fA-F]+", word) and word != word.lower():
         return [f"hexadecimal digits are lower case; perhaps: {word.lower()}"]
     if letter == "W":
-        return near(word, ["K_NO_WAIT", "K_FOREVER"])
+        unit = re.fullmatch(r"K_[A-Z]+\(([0-9]{1,7})\)", word)
+        return [f"time is counted in ticks; perhaps: K_TICKS({unit[1]})"] if unit else near(word, ["K_NO_WAIT", "K_FOREVER", "K_TICKS"])
     if letter == "K":
         return near({"queue": "msgq", "semaphore": "sem"}.get(word, word), KINDS)
     if letter not in "VOTSA":
         return [f"it stands without @: {word[1:]}"] if word.startswith("@") and letter in "DCP" else []
     name = word.split("+")[0]
-    if name in [*description.named("object"), *description.named("partition"), *description.variables(), "rodata"]:
+    if name in [*description.named("object"), *description.named("partition"), *description.variables(), *description.named("futex"), "rodata"]:
         what = "an object" if name in description.named("object") else "memory"
         return [f"{what} is named with @: @{word}"]
     return ["numbers have no sign"] if re.fullmatch("-[0-9]+", word) else []
@@ -106,10 +108,10 @@ def line_name(description: Description, words: str, rest: list) -> Fault:
     names = {
         "D": description.named("domain"), "C": description.named("script"), "P": description.named("partition"),
     }.get(letter)  # fmt: skip
-    places = [*description.named("object"), *description.named("partition"), *description.variables()]
+    places = [*description.named("object"), *description.named("partition"), *description.variables(), *description.named("futex")]
     if names is None:
         names = [*places, *(["rodata"] if description.get(("rodata",)) else [])]
-        lines = ["expected behind @: an object, a partition, a variable, or rodata where the description gives some"]
+        lines = ["expected behind @: an object, a partition, a variable, a futex, or rodata where the description gives some"]
         lines += [f"perhaps: @{one.removeprefix('perhaps: ')}" for one in near(word[1:].split("+")[0], names)]
     else:
         what = {"D": "domain", "C": "script", "P": "partition"}[letter]
@@ -144,7 +146,11 @@ def script_order(description: Description, words: str, rest: list) -> Fault:
     return told(description, words, path, lines)
 
 
-COSTS = {"repeat": 0, "end": 0, "set": 4, "add": 4, "load": 12, "store": 12, "exec": 12, "k_object_alloc": 240}
+COSTS = {"repeat": 0, "end": 0, "set": 4, "add": 4, "load": 12, "store": 12, "exec": 12, "k_object_alloc": 240} | dict.fromkeys(
+    ["k_timer_start", "k_timer_stop", "k_timer_status_get", "k_timer_status_sync", "k_thread_abort", "k_thread_join", "k_thread_suspend"]
+    + ["k_thread_resume", "k_futex_wait", "k_futex_wake"],
+    80,
+)
 OTHER_COST, SCRIPT_COST = 40, 240
 
 

@@ -13,7 +13,9 @@ FORMS = {
     "k_sem_count_get": "O R", "k_mutex_init": "O", "k_mutex_lock": "O W", "k_mutex_unlock": "O", "k_msgq_alloc_init": "O V V",
     "k_msgq_put": "O A W", "k_msgq_get": "O A W", "k_msgq_peek": "O A", "k_msgq_purge": "O", "k_msgq_num_used_get": "O R",
     "k_stack_alloc_init": "O V", "k_stack_push": "O V", "k_stack_pop": "O A W", "k_pipe_init": "O V", "k_pipe_write": "O A V W",
-    "k_pipe_read": "O A V W", "k_pipe_reset": "O", "k_pipe_close": "O",
+    "k_pipe_read": "O A V W", "k_pipe_reset": "O", "k_pipe_close": "O", "k_timer_start": "O V", "k_timer_stop": "O",
+    "k_timer_status_get": "O R", "k_timer_status_sync": "O R", "k_thread_abort": "T", "k_thread_join": "T W", "k_thread_suspend": "T",
+    "k_thread_resume": "T", "k_futex_wait": "A V W", "k_futex_wake": "A M",
 }  # fmt: skip
 MOST_PARTITIONS = 4
 NUMBER = r"(?:[0-9]{1,10}|0x[0-9a-f]{1,8})"
@@ -45,7 +47,10 @@ OPERANDS = {
         rf"(?:{NAME}|{NUMBER}/{NUMBER}/(?:{'|'.join([*ATTRIBUTES, 'P_RWX_U_RWX'])}))", "a partition: its name, or ADDR/SIZE/ATTR"
     ),
     "K": Operand(f"(?:{'|'.join(KINDS)})", f"a kind: {', '.join(KINDS)}"),
-    "W": Operand("(?:K_NO_WAIT|K_FOREVER)", "a timeout: K_NO_WAIT or K_FOREVER; there are none with an end"),
+    "W": Operand(
+        r"(?:K_NO_WAIT|K_FOREVER|K_TICKS\([0-9]{1,7}\))", "a timeout: K_NO_WAIT, K_FOREVER, or K_TICKS(N) with N from 1 to 1000000"
+    ),
+    "M": Operand("(?:one|all)", "how many are woken: one or all"),
     "I": Operand("-?[0-9]{1,3}", "a priority: a number from -128 to 127, of which -16 to 14 are valid"),
     "X": Operand(
         rf"(?:0|{OPTIONS}(?:\+{OPTIONS}){{0,2}})", "options: 0, or some of K_USER, K_INHERIT_PERMS, K_ESSENTIAL joined by +"

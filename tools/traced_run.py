@@ -8,6 +8,7 @@ CAUSES = {
     "access": "Access", "privileged": "Privileged", "k_oops": "KOops", "k_panic": "KPanic",
 }
 ERRNO = re.compile(r"E[A-Z]+$")
+JOIN_CELL, FUTEX_CELL = 128, 129
 
 
 class Run:
@@ -19,6 +20,8 @@ class Run:
         self.line = {}  # the line of a script that a thread makes, while it makes one
         self.dropped = set()  # threads that made their call's drop
         self.ends = set()  # threads whose end isn't over: their drops may be skipped
+        self.cuts = set()  # threads that were cut, or aborted themselves, and haven't ended
+        self.cell = {}  # the cell in which a thread waits, or waited last
 
     def reply(self, word):
         if word == "void":
@@ -44,13 +47,23 @@ class Run:
         start, size, attr = text.split("/")
         return f"range {start} {size}", f"rights {ATTRS[attr]}"
 
-    def work(self, x, answer, *rest):
+    def woken(self, rest):
         woken = []
         for word, who, reply in zip(rest[0::3], rest[1::3], rest[2::3]):
             assert word == "wake"
             woken.append(f"({self.who(who)}, {self.reply(reply)})")
-        said = "Answer.Wait" if answer == "wait" else call("Answer.Now", self.reply(answer))
-        return call("Act.Work", self.shown(x), said, flat(woken))
+        return flat(woken)
+
+    def answer(self, answer):
+        return "Answer.Wait" if answer == "wait" else call("Answer.Now", self.reply(answer))
+
+    def work(self, x, answer, *rest):
+        return call("Act.Work", self.shown(x), self.answer(answer), self.woken(rest))
+
+    def futex(self, what, a, *rest):
+        if what == "wait":
+            return call("Act.FutexWait", address(int(a, 16)), rest[0], self.answer(rest[1]))
+        return call("Act.FutexWake", address(int(a, 16)), self.answer(rest[0]), self.woken(rest[1:]))
 
     def domain(self, what, d, *rest):
         number = str(self.image.index("domains", d))
@@ -125,13 +138,42 @@ class Run:
             return call("Act.Fatal", a[0], cause)
         if word == "doom":
             return call("Act.Doom", f"thread {a[0]}")
-        return {"resume": "Act.Resume", "user": "Act.EnterUser", "exit": "Act.Exit"}[word]
+        if word in ("arm", "tick"):
+            return call(f"Act.{word.capitalize()}", a[0])
+        if word == "timeout":
+            return call("Act.TimedOut", self.who(a[0]))
+        if word == "expire":
+            return call("Act.Expire", self.shown(a[0]), self.woken(a[1:]))
+        if word in ("abort", "suspend", "continue"):
+            return call(f"Act.{word.capitalize()}", self.who(a[0]), truth(a[1] == "ok"))
+        if word == "cut":
+            return call("Act.Cut", self.who(a[0]))
+        if word == "join":
+            return call("Act.Join", self.who(a[0]), self.answer(a[1]))
+        if word == "left":
+            return call("Act.Left", self.who(a[0]), self.woken(a[1:]))
+        if word == "futex":
+            return self.futex(*a)
+        return {"resume": "Act.Resume", "user": "Act.EnterUser", "exit": "Act.Exit", "killed": "Act.Killed"}[word]
 
     def choice(self, t, word, rest):
         """The row and the way of a line's step."""
         instruction = self.line.get(t, "")
         if word in ("begin", "exit"):
             return 0, f"{word}s"
+        if word == "killed":
+            return 0, "goes" if t in self.cuts else "stops"
+        if word == "left":
+            return 0, "leaves"
+        if word == "join":
+            return 1 if rest[1] == "0" else 0, "goes"
+        if word == "tick":
+            return 0, "ticks"
+        if word in ("timeout", "cut"):
+            who = self.image.thread(rest[0])
+            return self.cell[who], f"times_out {who}" if word == "timeout" else f"cuts {who}"
+        if word == "expire":
+            return self.image.row(rest[0]), "expires"
         if word == "inherit":
             return self.image.row(rest[1]), "goes"
         if word == "start":
@@ -155,6 +197,18 @@ class Run:
             script = self.image.scripts[self.image.index("scripts", rest[0])]
             self.line[t] = script["lines"][int(rest[1]) - 1]
             self.dropped.discard(t)
+        if word == "act" and rest[1] == "wait":
+            self.cell[t] = self.image.row(rest[0])
+        if word == "join" and rest[1] == "wait":
+            self.cell[t] = JOIN_CELL
+        if word == "futex" and rest[0] == "wait" and rest[3] == "wait":
+            self.cell[t] = FUTEX_CELL
+        if word == "cut" or word == "abort" and rest[0] != "none" and self.image.thread(rest[0]) == t:
+            self.cuts.add(self.image.thread(rest[0]))
+        if word == "killed":
+            self.cuts.discard(t)
+            self.line.pop(t, None)
+            self.ends.add(t)
         if word in ("reply", "user", "fatal", "exit"):
             self.line.pop(t, None)
         if word == "exit" or word == "fatal" and rest[0] != "4" and self.image.table["oops"] == "abort":

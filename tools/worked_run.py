@@ -34,9 +34,9 @@ def imports(text, own):
         lines.append("use Rattle.um_base.specs.declared.image.Script.{Script}")
     lines += own
     lines.append("use Rattle.um_machine.specs.Run.{blank}")
-    ways = [w for w in ("skips", "begins", "exits", "cleans", "recycles", "goes") if uses(w, text)]
+    ways = [w for w in ("skips", "begins", "exits", "stops", "leaves", "cleans", "recycles", "ticks", "times_out", "expires", "cuts", "goes") if uses(w, text)]
     lines.append(f"use Rattle.um_worked_runs.specs.Evaluate.{{{', '.join(['Choice', *ways])}}}")
-    words = "unborn started doomed ended waits ready initialised uninitialised gone nothing named filled unlocked locked closed".split()
+    words = "unborn started doomed ended waits ready initialised uninitialised gone nothing named filled unlocked locked closed joining watching timer".split()
     lines.append(f"use Rattle.um_worked_runs.specs.Dump.{{{', '.join(['Dump', *[w for w in words if uses(w, text)]])}}}")
     short = [w for w in ("at", "thread", "row", "range", "rights", "by", "on", "choose") if re.search(rf"(?<![\w.]){w} (?!=)", text)]
     if short:

@@ -15,7 +15,9 @@ const AREA_SIZE = 0x80000;
 const STATIC_OBJECTS_START = 0x40000000;
 const DYNAMIC_OBJECTS_START = 0x48000000;
 
-const KINDS = ["thread", "thread_stack", "sem", "mutex", "msgq", "stack", "pipe"];
+const FUTEX_SIZE = 4;
+
+const KINDS = ["thread", "thread_stack", "sem", "mutex", "msgq", "stack", "pipe", "timer"];
 
 // The kind of each dynamic address: the first address number of a kind, and the kind.
 const DYNAMIC_KINDS = [[0, "thread"], [4, "sem"], [12, "mutex"], [16, "msgq"], [24, "stack"], [28, "pipe"]];
@@ -42,7 +44,7 @@ class Description {
   }
 
   sectionsAreTables(table) {
-    for (const section of ["pool", "partition", "domain", "object", "boot", "script"]) {
+    for (const section of ["pool", "partition", "domain", "object", "boot", "script", "futex"]) {
       const list = table[section] ?? [];
       const isFine = Array.isArray(list) && list.every((entry) => typeof entry === "object" && !Array.isArray(entry));
       if (!isFine) throw new Unreadable(0, `its section "${section}" is no array of tables`);
@@ -57,6 +59,10 @@ class Description {
     this.stacks = this.objects.filter((object) => object.kind === "thread_stack");
     this.place(this.partitions, PARTITIONS_START);
     this.place(this.stacks, STACKS_START);
+    this.futexes = entries(table, "futex").map((entry) => {
+      const { start } = this.partitionNamed(entry.partition);
+      return { ...entry, start: start + entry.offset };
+    });
     this.rodataSize = this.rodata.length ? this.rounded(this.rodata.length) : 0;
   }
 
@@ -89,6 +95,7 @@ class Description {
     for (const { name, start, range, row } of this.stacks) {
       regions.push({ what: "stack", name, start, size: range, row });
     }
+    for (const { name, start } of this.futexes) regions.push({ what: "futex", name, start, size: FUTEX_SIZE });
     return regions;
   }
 
@@ -124,6 +131,12 @@ class Description {
     return DYNAMIC_KINDS.findLast(([first]) => first <= row - FIRST_DYNAMIC_ROW)[1];
   }
 
+  partitionNamed(name) {
+    const partition = this.partitions.find((entry) => entry.name === name);
+    if (!partition) throw new Unreadable(0, `there is no partition "${name}"`);
+    return partition;
+  }
+
   // The address that a place such as @name+N stands for begins at this one.
   addressOfName(name) {
     if (name === "rodata") return RODATA_START;
@@ -131,6 +144,8 @@ class Description {
     if (partition) return partition.start;
     const variable = this.variableNamed(name);
     if (variable !== null) return variable;
+    const futex = this.futexes.find((entry) => entry.name === name);
+    if (futex) return futex.start;
     const row = this.rowOf.get(name);
     if (row === undefined) return 0;
     return this.objects[row].start ?? STATIC_OBJECTS_START + 64 * row;
@@ -155,6 +170,17 @@ class Description {
     });
     const [name, from] = variable ? [variable.name, start + offsets.get(variable.name)] : [region.name, region.start];
     return `${name}+${address - from}`;
+  }
+
+  // How the address of an object is named: by the object, or by itself.
+  nameAt(address) {
+    const object = this.objects.find(({ start, row }) => (start ?? STATIC_OBJECTS_START + 64 * row) === address);
+    return object?.name ?? addressText(address);
+  }
+
+  // How an address on which threads wait is named: by its futex, or by itself.
+  nameOfFutex(address) {
+    return this.futexes.find(({ start }) => start === address)?.name ?? addressText(address);
   }
 
   // The words of a script line, whose number counts from 1.

@@ -330,47 +330,46 @@ const EXAMPLES = {
     "keeper begin keep 2\n" +
     "keeper check parser thread any ok\n" +
     "keeper check q any any ok\n" +
-    "receiver act q wait\n" +
     "parser begin parse 2\n" +
     "keeper drop parser q kept\n" +
     "parser check q msgq init EPERM\n" +
     "sender copyin 0x20000020 4 ok\n" +
     "keeper reply void\n" +
-    "sender act q 0 wake receiver 0\n" +
     "parser fatal 3 EPERM\n" +
+    "sender act q 0\n" +
     "keeper begin keep 3\n" +
     "sender reply 0\n" +
-    "receiver resume\n" +
+    "receiver act q 0\n" +
     "keeper check done sem init ok\n" +
-    "keeper act done wait\n" +
-    "parser drop parser parser kept\n" +
     "receiver copyout 0x20000000 4 ok\n" +
+    "parser drop parser parser kept\n" +
+    "keeper act done wait\n" +
     "sender begin send 3\n" +
     "sender check q msgq init ok\n" +
     "sender copyin 0x20000020 4 ok\n" +
     "receiver reply 0\n" +
     "sender act q 0\n" +
-    "sender reply 0\n" +
     "receiver begin receive 2\n" +
+    "sender reply 0\n" +
     "sender begin send 4\n" +
     "sender check done sem init ok\n" +
     "sender act done void wake keeper 0\n" +
-    "sender reply void\n" +
     "keeper resume\n" +
-    "keeper reply 0\n" +
-    "sender exit\n" +
-    "keeper exit\n" +
     "receiver load 0x20000000 4 0x2a\n" +
+    "keeper reply 0\n" +
+    "sender reply void\n" +
+    "keeper exit\n" +
+    "sender exit\n" +
     "keeper drop keeper keeper kept\n" +
     "sender drop sender sender kept\n" +
     "receiver begin receive 3\n" +
     "receiver check done sem init ok\n" +
     "receiver act done void\n" +
     "receiver reply void\n" +
-    "sender drop sender q kept\n" +
-    "sender drop sender done kept\n" +
     "receiver exit\n" +
+    "sender drop sender q kept\n" +
     "receiver drop receiver receiver kept\n" +
+    "sender drop sender done kept\n" +
     "receiver drop receiver q kept\n" +
     "receiver drop receiver done kept\n" +
     "parser uninit parser_s\n" +
@@ -401,4 +400,169 @@ const EXAMPLES = {
     "memory 0x20000000 2a00000000000000000000000000000000000000000000000000000000000000\n" +
     "memory 0x20000020 2a00000000000000000000000000000000000000000000000000000000000000\n" +
     "memory 0x20000040 5e00000000000000000000000000000000000000000000000000000000000000\n",
+  "watchdog":
+    "#:schema ../schema/zumode.schema.json\n" +
+    "# A supervisor watches a worker, which has to report at least every five ticks. The third report doesn't come, since the worker waits\n" +
+    "# for good. So the supervisor stops it, waits for its end, and starts it anew on the same thread object and stack.\n" +
+    "version = 1\n" +
+    "mpu = \"pmsav7\"\n" +
+    "regions = 8\n" +
+    "oops = \"abort\"\n" +
+    "domain = [{name = \"app\", partitions = []}]\n" +
+    "object = [\n" +
+    " {name = \"main\", kind = \"thread\"},\n" +
+    " {name = \"main_s\", kind = \"thread_stack\", size = 512},\n" +
+    " {name = \"worker\", kind = \"thread\"},\n" +
+    " {name = \"worker_s\", kind = \"thread_stack\", size = 256},\n" +
+    " {name = \"alive\", kind = \"sem\", count = 0, limit = 1},\n" +
+    " {name = \"round\", kind = \"timer\"},\n" +
+    " {name = \"input\", kind = \"sem\", count = 0, limit = 1}]\n" +
+    "boot = [\n" +
+    " {thread = \"main\", stack = \"main_s\", script = \"watch\", mode = \"supervisor\", priority = 0, domain = \"app\", grants = [\"worker\", \"worker_s\", \"alive\"]},\n" +
+    " {thread = \"worker\", stack = \"worker_s\", script = \"work\", mode = \"user\", priority = 5, domain = \"app\", grants = [\"alive\", \"round\", \"input\"]}]\n" +
+    "\n" +
+    "[[script]]\n" +
+    "name = \"watch\"\n" +
+    "lines = [\n" +
+    " \"k_sem_take @alive K_TICKS(5)\",\n" +
+    " \"k_sem_take @alive K_TICKS(5)\",\n" +
+    " \"k_sem_take @alive K_TICKS(5)\",\n" +
+    " \"k_thread_abort @worker\",\n" +
+    " \"k_thread_join @worker K_FOREVER\",\n" +
+    " \"k_thread_create @worker @worker_s 256 again 5 K_USER+K_INHERIT_PERMS\",\n" +
+    " \"k_thread_join @worker K_TICKS(5)\"]\n" +
+    "\n" +
+    "[[script]]\n" +
+    "name = \"work\"\n" +
+    "lines = [\n" +
+    " \"repeat 2\",\n" +
+    " \"k_timer_start @round 3\",\n" +
+    " \"k_timer_status_sync @round r0\",\n" +
+    " \"k_sem_give @alive\",\n" +
+    " \"end\",\n" +
+    " \"k_sem_take @input K_FOREVER\"]\n" +
+    "\n" +
+    "[[script]]\n" +
+    "name = \"again\"\n" +
+    "lines = [\"k_sem_give @alive\"]\n" +
+    "=====\n" +
+    "main begin watch 1\n" +
+    "main check alive sem init ok\n" +
+    "main arm 5\n" +
+    "main act alive wait\n" +
+    "worker begin work 2\n" +
+    "worker check round timer init ok\n" +
+    "worker arm 3\n" +
+    "worker act round void\n" +
+    "worker reply void\n" +
+    "worker begin work 3\n" +
+    "worker check round timer init ok\n" +
+    "worker act round wait\n" +
+    "worker tick 3\n" +
+    "worker expire round wake worker 1\n" +
+    "worker resume\n" +
+    "worker reply 1\n" +
+    "worker begin work 4\n" +
+    "worker check alive sem init ok\n" +
+    "worker act alive void wake main 0\n" +
+    "worker reply void\n" +
+    "main resume\n" +
+    "main reply 0\n" +
+    "worker begin work 2\n" +
+    "worker check round timer init ok\n" +
+    "worker arm 6\n" +
+    "worker act round void\n" +
+    "worker reply void\n" +
+    "main begin watch 2\n" +
+    "main check alive sem init ok\n" +
+    "main arm 8\n" +
+    "main act alive wait\n" +
+    "worker begin work 3\n" +
+    "worker check round timer init ok\n" +
+    "worker act round wait\n" +
+    "worker tick 5\n" +
+    "worker tick 6\n" +
+    "worker expire round wake worker 1\n" +
+    "worker resume\n" +
+    "worker reply 1\n" +
+    "worker begin work 4\n" +
+    "worker check alive sem init ok\n" +
+    "worker act alive void wake main 0\n" +
+    "worker reply void\n" +
+    "main resume\n" +
+    "main reply 0\n" +
+    "worker begin work 6\n" +
+    "worker check input sem init ok\n" +
+    "worker act input wait\n" +
+    "main begin watch 3\n" +
+    "main check alive sem init ok\n" +
+    "main arm 11\n" +
+    "main act alive wait\n" +
+    "main tick 8\n" +
+    "main tick 11\n" +
+    "main timeout main\n" +
+    "main resume\n" +
+    "main reply EAGAIN\n" +
+    "main begin watch 4\n" +
+    "main check worker thread init ok\n" +
+    "main abort worker ok\n" +
+    "main cut worker\n" +
+    "main reply void\n" +
+    "worker killed\n" +
+    "worker drop worker worker kept\n" +
+    "worker drop worker alive kept\n" +
+    "worker drop worker round kept\n" +
+    "worker drop worker input kept\n" +
+    "worker uninit worker_s\n" +
+    "worker uninit worker\n" +
+    "main begin watch 5\n" +
+    "main check worker thread init EINVAL\n" +
+    "main reply 0\n" +
+    "main begin watch 6\n" +
+    "main check worker thread uninit ok\n" +
+    "main check worker_s thread_stack uninit ok\n" +
+    "main setinit worker ok\n" +
+    "main setinit worker_s ok\n" +
+    "main erase worker_s\n" +
+    "main own worker ok\n" +
+    "main inherit worker worker_s\n" +
+    "main inherit worker alive\n" +
+    "main start worker\n" +
+    "main reply worker\n" +
+    "worker begin again 1\n" +
+    "worker check alive sem init ok\n" +
+    "worker act alive void\n" +
+    "worker reply void\n" +
+    "main begin watch 7\n" +
+    "main check worker thread init ok\n" +
+    "main arm 16\n" +
+    "main join worker wait\n" +
+    "worker exit\n" +
+    "worker drop worker worker kept\n" +
+    "worker drop worker worker_s kept\n" +
+    "worker drop worker alive kept\n" +
+    "worker uninit worker_s\n" +
+    "worker left worker wake main 0\n" +
+    "worker uninit worker\n" +
+    "main resume\n" +
+    "main reply 0\n" +
+    "main exit\n" +
+    "main drop main main kept\n" +
+    "main drop main worker kept\n" +
+    "main drop main worker_s kept\n" +
+    "main drop main alive kept\n" +
+    "main uninit main_s\n" +
+    "main uninit main\n" +
+    "main tick 16\n" +
+    "dump\n" +
+    "thread main ended supervisor 0 app\n" +
+    "thread worker ended user 5 app\n" +
+    "object main thread uninit private - -\n" +
+    "object main_s thread_stack uninit private - -\n" +
+    "object worker thread uninit private - -\n" +
+    "object worker_s thread_stack uninit private - -\n" +
+    "object alive sem init private - 1/1\n" +
+    "object round timer init private - 0/stopped\n" +
+    "object input sem init private - 0/1\n" +
+    "domain app -\n",
 };

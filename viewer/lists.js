@@ -158,13 +158,16 @@ function isOfMemory(run, region) {
   return (k) => changes.has(k) || touches(run.trace, k, region);
 }
 
-const MEMORY_KINDS = new Set(["load", "store", "exec", "fault", "probe", "copyin", "copyout", "copystr"]);
+const MEMORY_KINDS = new Set(["load", "store", "exec", "fault", "probe", "copyin", "copyout", "copystr", "futex"]);
+
+// How many bytes events touch that don't say it.
+const SIZES = { exec: 4, futex: FUTEX_SIZE };
 
 // Whether event k reads, writes or fetches in a range of memory, or is refused to.
 function touches(trace, k, { start, size, row }) {
   const kind = trace.kindWord(k);
   if (kind === "erase") return row !== undefined && trace.row[k] === row;
-  const bytes = Math.max(1, kind === "exec" ? 4 : trace.size[k]);
+  const bytes = Math.max(1, SIZES[kind] ?? trace.size[k]);
   return MEMORY_KINDS.has(kind) && trace.addr[k] < start + size && start < trace.addr[k] + bytes;
 }
 

@@ -237,6 +237,8 @@ class Page {
     }
     byId("event-text").replaceChildren(...paragraphs);
     byId("event-panel").classList.toggle("failing", k > 0 && isFailure(run.groups[k]));
+    byId("clock").hidden = run.kindCounts[KIND_NUMBER.get("arm")] === 0;
+    byId("clock").textContent = clockText(run.stateAfter(k));
   }
 
   // Tells of a cell of the matrix which events gave and took the right; of a heading the story.
@@ -300,7 +302,9 @@ class Page {
       button.disabled = counts[group] === 0;
       button.setAttribute("aria-pressed", String(!this.timeline.hidden.has(group)));
       button.addEventListener("click", () => this.toggleGroup(group, button));
-      return wrapped("li", button);
+      const entry = wrapped("li", button);
+      entry.hidden = GROUPS[group].isOptional === true && counts[group] === 0;
+      return entry;
     }));
   }
 

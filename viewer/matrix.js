@@ -33,19 +33,33 @@ function modeWord(state, thread) {
 function threadNote(state, thread) {
   const domain = state.description.domains[state.domain[thread]];
   const status = state.status(thread);
-  return status === "unborn" ? status : `${modeWord(state, thread)} in ${domain}, ${status.replace(":", " for ")}`;
+  if (status === "unborn") return status;
+  const isWaiting = status.startsWith("waits:");
+  const told = isWaiting ? `waits for ${awaited(state, thread)}${deadlineText(state, thread, " until tick ")}` : status;
+  const stopped = state.stopped(thread);
+  return `${modeWord(state, thread)} in ${domain}, ${told}${stopped && `, ${stopped}`}`;
 }
 
 function regionRow(k, threads, region, before, state) {
-  const end = addressText(region.start + region.size - 1);
-  const note = `${addressText(region.start)} to ${end}${region.attr ? `, ${region.attr}` : ""}`;
+  const note = changedWhere(k, (of) => regionNote(of, region), before, state);
   return {
-    name: region.name, region, kind: region.what, text: note, changed: false, isAbsent: false,
+    ...note, name: region.name, region, kind: region.what, isAbsent: false,
     cells: threads.map((thread) => {
       const cell = changedWhere(k, (of) => accessText(of, thread, region), before, state, { thread });
       return { ...cell, label: accessLabel(state, thread, region) };
     }),
   };
+}
+
+// Where a region stands, and who waits on a futex.
+function regionNote(state, region) {
+  const range = `${addressText(region.start)} to ${addressText(region.start + region.size - 1)}`;
+  if (region.what === "futex") return range + waitersText(state, state.waitersAt(region.start), "waited on by");
+  return `${range}${region.attr ? `, ${region.attr}` : ""}`;
+}
+
+function waitersText(state, threads, word) {
+  return threads.length ? `, ${word} ${threads.map((thread) => state.description.nameOfThread(thread)).join(", ")}` : "";
 }
 
 // What stands in a cell of memory. Rights in a part of the region alone stand in brackets.
@@ -87,8 +101,14 @@ function objectNote(state, row) {
   if (state.stage[row] === STAGE.reserved) return "reserved";
   const words = [{ init: "initialised", uninit: "uninitialised", gone: "gone" }[stageText(state, row)]];
   if (state.isPublic[row]) words.push("public");
-  if (state.content(row) !== "-") words.push(state.content(row));
-  return words.join(", ");
+  const kind = state.description.kindOfRow(row);
+  if (kind === "timer") words.push(`status ${state.count[row]}`, timerText(state, row));
+  else if (state.content(row) !== "-") words.push(state.content(row));
+  return words.join(", ") + (kind === "thread" ? waitersText(state, state.waitersOn(row), "joined by") : "");
+}
+
+function timerText(state, row) {
+  return state.expires[row] < 0 ? "stopped" : `runs until tick ${state.expires[row]}`;
 }
 
 function pairSigns(state, thread, row) {

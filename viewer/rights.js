@@ -7,6 +7,7 @@ class Rights {
     this.description = description;
     // The rows of the memory part of the matrix. Partitions that a script names by numbers come behind the others.
     this.regions = [...description.regions];
+    this.futexes = this.regions.filter(({ what }) => what === "futex");
     // By row and thread, and by region and thread: the events that changed the right, in their order.
     this.ofPairs = new Map();
     this.ofRegions = new Map();
@@ -34,7 +35,7 @@ class Rights {
     this.noteUse(trace, k, kind);
     switch (kind) {
       case "start": return this.compareThread(state, trace.peer[k], k);
-      case "user": case "exit": case "fatal": return this.compareThread(state, trace.who[k], k);
+      case "user": case "exit": case "fatal": case "killed": return this.compareThread(state, trace.who[k], k);
       case "domain": return this.noteDomain(state, trace.row[k], trace.peer[k], k);
       case "born": case "recycle": case "public": return this.compareObject(state, trace.objectRow(k), k);
       case "drop": return trace.verdictWord(k) === "gone" ? this.compareObject(state, trace.objectRow(k), k) : undefined;
@@ -49,9 +50,11 @@ class Rights {
       noteDone(this.didName, trace.row[k] * THREADS + who, "", k);
     }
     const right = RIGHT_OF_KIND[kind];
-    const isDone = right && (verdict === "" || verdict === "ok" || verdict === "number");
-    const region = isDone ? this.regionAt(trace.addr[k]) : undefined;
-    if (region) noteDone(this.didReach, this.regions.indexOf(region) * THREADS + who, right, k);
+    if (!right || !DONE_VERDICTS.has(verdict)) return;
+    const reached = this.futexes.filter((futex) => touches(trace, k, futex));
+    const region = this.regionAt(trace.addr[k]);
+    if (region) reached.push(region);
+    for (const one of reached) noteDone(this.didReach, this.regions.indexOf(one) * THREADS + who, right, k);
   }
 
   noteDomain(state, domain, moved, k) {
@@ -114,8 +117,9 @@ class Rights {
   }
 }
 
-// The right that an event uses where it isn't refused.
-const RIGHT_OF_KIND = { load: "r", store: "w", exec: "x", copyin: "r", copystr: "r", copyout: "w" };
+// The right that an event uses where it isn't refused, and what it says then.
+const RIGHT_OF_KIND = { load: "r", store: "w", exec: "x", copyin: "r", copystr: "r", copyout: "w", futex: "r" };
+const DONE_VERDICTS = new Set(["", "ok", "number", "wait", "EAGAIN", "ETIMEDOUT"]);
 
 // Notes what holds from event k on, and, where it is another than before, event k as one that changed it. `could` gets what
 // held at some time, from the first event behind which it did to the last one.

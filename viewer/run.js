@@ -13,7 +13,11 @@ class Run {
     this.nearby = null;
     this.rights = new Rights(description);
     this.waits = Array.from({ length: THREADS }, () => []);
-    this.wakes = [];
+    // The arrows from what wakes or stops another thread to that thread.
+    this.arrows = [];
+    // The events by which virtual time goes on, and how each thread is stopped by others.
+    this.ticks = [];
+    this.stops = Array.from({ length: THREADS }, () => []);
     this.goneEvents = [];
     this.failures = [];
     this.lives = Array.from({ length: THREADS }, () => []);
@@ -72,14 +76,43 @@ class Run {
     this.noteLife(kind, k);
     const row = trace.objectRow(k);
     if (row >= 0) this.used.rows.add(row);
-    if (kind === "act" && trace.verdictWord(k) === "wait") this.waits[who].push({ start: k, end: -1, row, woken: -1 });
-    if (kind === "resume" && this.waits[who].length) this.waits[who].at(-1).end = k;
-    for (const { thread } of trace.woken.get(k) ?? []) {
-      this.wakes.push({ event: k, from: who, to: thread });
-      if (this.waits[thread].length) this.waits[thread].at(-1).woken = k;
-    }
+    if (kind === "tick") this.ticks.push({ event: k, time: trace.time[k] });
+    this.noteWaits(state, kind, k);
+    this.noteStops(state, kind, k);
     if (kind === "drop" && trace.verdictWord(k) === "gone") this.goneEvents.push({ event: k, row });
     this.rights.note(state, trace, k);
+  }
+
+  // A wait goes on to the resume, or to where it is cut.
+  noteWaits(state, kind, k) {
+    const { trace } = this;
+    const [who, peer] = [trace.who[k], trace.peer[k]];
+    if (WAITING_KINDS.has(kind) && trace.verdictWord(k) === "wait") {
+      const [row, deadline] = [state.waitsOn[who], state.deadline[who]];
+      this.waits[who].push({ start: k, end: -1, row, deadline, woken: -1, timeout: 0, isCut: false });
+    }
+    if (kind === "resume" && this.waits[who].length) this.waits[who].at(-1).end = k;
+    for (const { thread } of trace.woken.get(k) ?? []) {
+      this.arrows.push({ event: k, from: who, to: thread, group: "wait" });
+      if (this.waits[thread].length) this.waits[thread].at(-1).woken = k;
+    }
+    if (kind === "timeout") this.arrows.push({ event: k, from: who, to: peer, group: "timeout" });
+    if (kind === "timeout" && this.waits[peer].length) this.waits[peer].at(-1).timeout = k;
+    if (kind === "cut" && this.waits[peer].length) Object.assign(this.waits[peer].at(-1), { end: k, isCut: true });
+  }
+
+  // From when to when a thread is suspended, or aborted, or stays killed: one such time behind the other.
+  noteStops(state, kind, k) {
+    if (!STOPPING_KINDS.has(kind)) return;
+    const [who, peer] = [this.trace.who[k], this.trace.peer[k]];
+    const isDone = this.groups[k] === GROUP_NUMBER.get("stopped") && this.trace.verdictWord(k) !== "none";
+    if (isDone && peer >= 0) this.arrows.push({ event: k, from: who, to: peer, group: "stopped" });
+    const thread = peer < 0 ? who : peer;
+    const last = this.stops[thread].at(-1);
+    const word = state.stopped(thread);
+    if (word === (last?.end < 0 ? last.word : "")) return;
+    if (last?.end < 0) last.end = k;
+    if (word !== "") this.stops[thread].push({ start: k, end: -1, word });
   }
 
   // The words of event k.
@@ -90,7 +123,7 @@ class Run {
   noteLife(kind, k) {
     const lives = this.lives[kind === "start" ? this.trace.peer[k] : this.trace.who[k]];
     if (kind === "start") lives.push({ start: k, end: -1, failed: false });
-    if ((kind === "exit" || kind === "fatal") && lives.length) {
+    if (["exit", "fatal", "killed"].includes(kind) && lives.length) {
       lives.at(-1).end = k;
       lives.at(-1).failed = kind === "fatal";
     }
@@ -123,6 +156,8 @@ class Run {
     return state;
   }
 }
+
+const STOPPING_KINDS = new Set(["abort", "suspend", "continue", "cut", "killed", "fatal", "exit", "start"]);
 
 // Makes a fault say which of the two texts it was found in.
 function atFile(file, fault) {

@@ -1,6 +1,7 @@
 "use strict";
 // What an act of a service does to an object: how many a semaphore counts, who owns a mutex, how much a queue, a stack
-// or a pipe holds. The trace says who is answered what; from that, and from the script line, the rest follows.
+// or a pipe holds, how often a timer ran out. The trace says who is answered what; from that, and from the script line,
+// the rest follows.
 
 // The effect of an act, by the instruction that makes it. `done` says that the answer is 0.
 const ACTS = {
@@ -35,6 +36,16 @@ const ACTS = {
   k_pipe_read: (act) => act.grow(act.wokenBytes() - act.answered),
   k_pipe_reset: (act) => act.setCount(0),
   k_pipe_close: (act) => { act.state.closed[act.row] = 1; },
+  k_timer_start(act) {
+    act.setCount(0);
+    act.state.expires[act.row] = act.state.deadline[act.who];
+  },
+  k_timer_stop(act) {
+    act.state.expires[act.row] = -1;
+    act.tellWoken();
+  },
+  k_timer_status_get: (act) => act.tellStatus(),
+  k_timer_status_sync: (act) => act.tellStatus(),
 };
 
 class Act {
@@ -89,6 +100,17 @@ class Act {
     if (this.isNumber) this.state.setRegister(this.who, this.words[place], this.answered);
   }
 
+  // A timer's status goes to the one who asks, and is 0 from then on.
+  tellStatus() {
+    this.toRegister(2);
+    this.setCount(0);
+  }
+
+  // The threads that a timer wakes have its status in their registers.
+  tellWoken() {
+    for (const { thread, reply } of this.woken) this.state.setRegister(thread, this.state.words(thread)[2], reply);
+  }
+
   wokenBytes() {
     return this.woken.reduce((sum, { reply }) => sum + (typeof reply === "number" ? reply : 0), 0);
   }
@@ -96,7 +118,17 @@ class Act {
 
 function changeContent(state, trace, k, who) {
   const act = new Act(state, trace, k);
-  for (const { thread } of act.woken) state.waitsOn[thread] = -1;
+  endWaitsOfWoken(state, trace, k);
   if (act.waits) state.waitsOn[who] = trace.row[k];
   else if (act.row >= 0) ACTS[act.words[0]]?.(act);
+}
+
+// A timer runs out: its status is one more, or goes to the thread that is told.
+function expireTimer(state, trace, k) {
+  const act = new Act(state, trace, k);
+  endWaitsOfWoken(state, trace, k);
+  state.expires[act.row] = -1;
+  act.tellWoken();
+  if (act.woken.length) act.setCount(0);
+  else act.grow(1);
 }

@@ -1,6 +1,7 @@
 "use strict";
 // The groups that events are drawn in, each with a colour and a shape of its own, so that neither is needed alone.
-// Their order is that of their weight: where there is no room for all, the last one is drawn.
+// Their order is that of their weight: where there is no room for all, the last one is drawn. The legend has an optional one
+// only where a run has events of it.
 
 const GROUPS = [
   { name: "line", label: "line", title: "A line of a script begins", shape: tick },
@@ -14,9 +15,15 @@ const GROUPS = [
   { name: "taken", label: "permission taken", title: "A permission is taken", shape: minus },
   { name: "domain", label: "domain", title: "A call on a domain", shape: house },
   { name: "thread", label: "start, user, exit", title: "A thread starts, becomes a user or exits", shape: flag },
+  { name: "time", label: "time", title: "A deadline is armed, virtual time goes on, or a timer runs out", shape: clock, isOptional: true },
   { name: "wait", label: "wait", title: "A thread begins to wait", shape: hourglass },
+  { name: "timeout", label: "timed out", title: "A wait ends at its deadline", shape: hollowHourglass, isOptional: true },
   { name: "recycle", label: "gone, recycled", title: "An object is gone, or recycled", shape: crossedRing },
-  { name: "refused", label: "refused", title: "A check or a copy that is refused", shape: downTriangle },
+  {
+    name: "stopped", label: "stopped", title: "A thread is suspended, resumed, aborted, cut or killed", shape: barredDisc,
+    isOptional: true,
+  },
+  { name: "refused", label: "refused", title: "A check, a copy or a look at a futex that is refused", shape: downTriangle },
   { name: "doom", label: "doom", title: "A thread index is doomed", shape: hollowOctagon },
   { name: "fault", label: "fault", title: "A fault", shape: cross },
   { name: "fatal", label: "fatal error", title: "A fatal error", shape: octagon },
@@ -29,19 +36,23 @@ const GROUP_OF_KIND = {
   copyout: "memory", copystr: "memory", erase: "memory", check: "check", public: "object", setinit: "object",
   uninit: "object", name: "object", reserve: "object", born: "given", buffer: "object", unbuffer: "object", act: "act",
   resume: "resume", grant: "given", own: "given", inherit: "given", drop: "taken", domain: "domain", start: "thread",
-  user: "thread", exit: "thread", recycle: "recycle", doom: "doom", fault: "fault", fatal: "fatal",
+  user: "thread", exit: "thread", recycle: "recycle", doom: "doom", fault: "fault", fatal: "fatal", arm: "time",
+  tick: "time", expire: "time", timeout: "timeout", abort: "stopped", suspend: "stopped", continue: "stopped",
+  killed: "stopped", cut: "stopped", join: "act", left: "act", futex: "act",
 };
+const WAITING_KINDS = new Set(["act", "join", "futex"]);
 
 // The number of the group in which event k is drawn.
 function groupOf(trace, k) {
   const kind = trace.kindWord(k);
   const verdict = trace.verdictWord(k);
   let group = GROUP_OF_KIND[kind];
-  if (kind === "act" && verdict === "wait") group = "wait";
+  if (WAITING_KINDS.has(kind) && verdict === "wait") group = "wait";
   if (kind === "drop" && verdict === "gone") group = "recycle";
   const isError = trace.verdict[k] >= FIRST_ERROR || verdict === "unreadable" || verdict === "toolong";
   const mayRefuse = group === "check" || group === "memory" || kind === "setinit" || kind === "buffer";
-  if (isError && mayRefuse) group = "refused";
+  const isNoFutex = kind === "futex" && (verdict === "EACCES" || verdict === "EINVAL");
+  if ((isError && mayRefuse) || isNoFutex) group = "refused";
   return GROUP_NUMBER.get(group);
 }
 
@@ -137,6 +148,25 @@ function hourglass(context, x, y, r) {
   filled(context, [[x - r * 0.8, y - r], [x + r * 0.8, y - r], [x - r * 0.8, y + r], [x + r * 0.8, y + r]]);
 }
 
+function hollowHourglass(context, x, y, r) {
+  path(context, [[x - r * 0.8, y - r], [x + r * 0.8, y - r], [x - r * 0.8, y + r], [x + r * 0.8, y + r]]);
+  context.closePath();
+  context.lineWidth = 2;
+  context.stroke();
+}
+
+function clock(context, x, y, r) {
+  ring(context, x, y, r * 1.3);
+  stroked(context, [[x, y - r * 0.6], [x, y], [x + r * 0.5, y]]);
+}
+
+function barredDisc(context, x, y, r) {
+  circle(context, x, y, r);
+  context.fill();
+  context.fillStyle = context.backdrop ?? "#fff";
+  context.fillRect(x - r * 0.65, y - r * 0.2, r * 1.3, r * 0.4);
+}
+
 function crossedRing(context, x, y, r) {
   ring(context, x, y, r * 1.2);
   stroked(context, [[x - r, y + r], [x + r, y - r]]);
@@ -181,7 +211,7 @@ function pageColours() {
 }
 
 const COLOUR_NAMES = [
-  "panel", "stripe", "text", "line", "faint", "life", "failed", "waiting", "mark-wake", "match", "chosen",
+  "panel", "stripe", "text", "line", "faint", "life", "failed", "stopped", "waiting", "mark-wake", "match", "chosen",
   ...GROUPS.map(({ name }) => `mark-${name}`),
 ];
 

@@ -1,6 +1,6 @@
 "use strict";
-// What holds between two events of a run: permissions, objects, threads, domains, pools and what objects contain.
-// `apply` takes one event further. It believes the trace, and checks nothing: it draws, and judges nothing.
+// What holds between two events of a run: permissions, objects, threads, domains, pools, what objects contain, and virtual
+// time. `apply` takes one event further. It believes the trace, and checks nothing: it draws, and judges nothing.
 
 const STAGE = { free: 0, live: 1, gone: 2, reserved: 3 };
 const LIFE = { unborn: 0, started: 1, ended: 2 };
@@ -33,6 +33,8 @@ class State {
     this.costPool = new Int8Array(ROWS).fill(-1);
     this.bufferPool = new Int8Array(ROWS).fill(-1);
     this.bufferSize = new Uint32Array(ROWS);
+    // The tick at which a running timer runs out, or -1.
+    this.expires = new Float64Array(ROWS).fill(-1);
     // By thread index.
     this.life = new Uint8Array(THREADS);
     this.holdsItself = new Uint8Array(THREADS);
@@ -43,7 +45,14 @@ class State {
     this.pool = new Int8Array(THREADS).fill(-1);
     this.stackRow = new Int16Array(THREADS).fill(-1);
     this.erased = new Int16Array(THREADS).fill(-1);
+    // What a thread waits on: an object or, for its end, a thread, by its row; or a futex, by its address. -1 and 0 for none.
     this.waitsOn = new Int16Array(THREADS).fill(-1);
+    this.waitsAt = new Uint32Array(THREADS);
+    // The deadline that a thread's line has armed, or -1.
+    this.deadline = new Float64Array(THREADS).fill(-1);
+    this.aborted = new Uint8Array(THREADS);
+    this.suspended = new Uint8Array(THREADS);
+    this.killed = new Uint8Array(THREADS);
     this.script = new Int16Array(THREADS).fill(-1);
     this.line = new Uint16Array(THREADS);
     this.paid = new Uint32Array(THREADS);
@@ -51,12 +60,15 @@ class State {
     this.poolLeft = new Int32Array(4);
     // By domain: a list of partitions, or null where it isn't initialised. Lists are replaced, never changed.
     this.parts = [];
+    // Virtual time, and the armed deadlines ahead of it, the least one first.
+    this.now = 0;
+    this.armed = [];
   }
 
   clone() {
     const copy = new State();
     for (const [key, value] of Object.entries(this)) {
-      copy[key] = key === "description" ? value : value.slice();
+      copy[key] = key === "description" || key === "now" ? value : value.slice();
     }
     return copy;
   }
@@ -68,7 +80,8 @@ class State {
     this.count[row] = kind === "sem" ? object.count ?? 0 : 0;
     const limits = { sem: object.limit, msgq: object.max_msgs, stack: object.entries, pipe: object.size };
     this.limit[row] = limits[kind] ?? 0;
-    this.initialised[row] = kind === "mutex" ? Number(object.init ?? false) : Number(limits[kind] !== undefined);
+    const isOpen = { mutex: object.init ?? false, timer: true }[kind] ?? limits[kind] !== undefined;
+    this.initialised[row] = Number(isOpen);
   }
 
   openThread(boot) {
@@ -100,8 +113,28 @@ class State {
     this.pool[thread] = pool;
     this.script[thread] = script;
     this.line[thread] = 0;
-    this.waitsOn[thread] = -1;
+    for (const column of [this.aborted, this.suspended, this.killed]) column[thread] = 0;
+    this.endWait(thread);
     this.registers.fill(0, thread * 8, thread * 8 + 8);
+  }
+
+  endWait(thread) {
+    this.waitsOn[thread] = -1;
+    this.waitsAt[thread] = 0;
+  }
+
+  waits(thread) {
+    return this.waitsOn[thread] >= 0 || this.waitsAt[thread] > 0;
+  }
+
+  // The threads that wait on an object or for the end of a thread, by its row.
+  waitersOn(row) {
+    return threadsWhere((thread) => this.waitsOn[thread] === row);
+  }
+
+  // The threads that wait on a futex, by its address.
+  waitersAt(address) {
+    return threadsWhere((thread) => this.waitsAt[thread] === address);
   }
 
   give(thread, row) {
@@ -147,8 +180,17 @@ class State {
     if (this.life[thread] === LIFE.unborn) return "unborn";
     if (this.doomed[thread]) return "doomed";
     if (this.life[thread] === LIFE.ended) return "ended";
+    if (this.waitsAt[thread] > 0) return `waits:${addressText(this.waitsAt[thread])}`;
     const row = this.waitsOn[thread];
     return row < 0 ? "ready" : `waits:${this.description.nameOfRow(row)}`;
+  }
+
+  // How a thread is stopped: "killed", "aborted" before its end, "suspended" or "".
+  stopped(thread) {
+    if (this.killed[thread]) return "killed";
+    if (this.life[thread] !== LIFE.started) return "";
+    if (this.aborted[thread]) return "aborted";
+    return this.suspended[thread] ? "suspended" : "";
   }
 
   // What an object contains, as a dump shows it. The name of a thread isn't kept here.
@@ -158,6 +200,7 @@ class State {
     switch (this.description.kindOfRow(row)) {
       case "mutex": return this.owner[row] < 0 ? "free" : `${this.description.nameOfThread(this.owner[row])}*${count}`;
       case "pipe": return this.closed[row] ? "closed" : `${count}/${limit}`;
+      case "timer": return `${count}/${this.expires[row] < 0 ? "stopped" : "running"}`;
       case "sem": case "msgq": case "stack": return `${count}/${limit}`;
       default: return "-";
     }
@@ -176,7 +219,7 @@ class State {
 
   // The partitions of a thread's domain that share bytes with a region.
   partsAt(thread, region) {
-    if (this.life[thread] !== LIFE.started || region.what !== "partition") return [];
+    if (this.life[thread] !== LIFE.started || !["partition", "futex"].includes(region.what)) return [];
     const parts = this.parts[this.domain[thread]] ?? [];
     return parts.filter(({ start, size }) => start < region.start + region.size && region.start < start + size);
   }
@@ -202,6 +245,10 @@ class State {
   }
 }
 
+function threadsWhere(holds) {
+  return Array.from({ length: THREADS }, (_, thread) => thread).filter(holds);
+}
+
 // Whether a range has each byte of another one.
 function contains(outer, inner) {
   return outer.start <= inner.start && inner.start + inner.size <= outer.start + outer.size;
@@ -219,8 +266,7 @@ function openParts(description, domain) {
 }
 
 function namedPart(description, name) {
-  const partition = description.partitions.find((entry) => entry.name === name);
-  if (!partition) throw new Unreadable(0, `there is no partition "${name}"`);
+  const partition = description.partitionNamed(name);
   return { start: partition.start, size: partition.range, attr: partition.attr };
 }
 
@@ -235,6 +281,7 @@ const CHANGES = {
   begin(state, trace, k, who) {
     state.script[who] = trace.row[k];
     state.line[who] = trace.size[k];
+    state.deadline[who] = -1;
     const [name, to, term] = state.words(who);
     if (name === "set") state.setRegister(who, to, state.term(who, term));
     if (name === "add") state.setRegister(who, to, state.registers[who * 8 + Number(to[1])] + state.term(who, term));
@@ -249,6 +296,34 @@ const CHANGES = {
     if (trace.size[k] !== 4 && !state.description.halts) state.life[who] = LIFE.ended;
   },
   exit: (state, trace, k, who) => { state.life[who] = LIFE.ended; },
+  killed(state, trace, k, who) {
+    endCall(state, who);
+    state.life[who] = LIFE.ended;
+    state.killed[who] = 1;
+  },
+  abort: markWhereOk("aborted", 1),
+  suspend: markWhereOk("suspended", 1),
+  continue: markWhereOk("suspended", 0),
+  cut: (state, trace, k) => state.endWait(trace.peer[k]),
+  timeout: (state, trace, k) => state.endWait(trace.peer[k]),
+  join(state, trace, k, who) {
+    if (trace.verdictWord(k) === "wait") state.waitsOn[who] = state.description.rowOfThread(trace.peer[k]);
+  },
+  left: endWaitsOfWoken,
+  futex(state, trace, k, who) {
+    if (trace.verdictWord(k) === "wait") state.waitsAt[who] = trace.addr[k];
+    endWaitsOfWoken(state, trace, k);
+  },
+  arm(state, trace, k, who) {
+    const deadline = trace.time[k];
+    state.deadline[who] = deadline;
+    if (deadline > state.now && !state.armed.includes(deadline)) state.armed = sorted([...state.armed, deadline]);
+  },
+  tick(state, trace, k) {
+    state.now = trace.time[k];
+    state.armed = state.armed.filter((deadline) => deadline > state.now);
+  },
+  expire: expireTimer,
   doom: (state, trace, k) => { state.doomed[trace.size[k]] = 1; },
   user: (state, trace, k, who) => { state.supervisor[who] = 0; },
   grant: giveWhere("ok"),
@@ -315,6 +390,16 @@ function giveWhere(verdict) {
 
 function setWhereOk(column, trace, k) {
   if (trace.verdictWord(k) === "ok" && trace.row[k] >= 0) column[trace.row[k]] = 1;
+}
+
+function markWhereOk(column, mark) {
+  return (state, trace, k) => {
+    if (trace.verdictWord(k) === "ok") state[column][trace.peer[k]] = mark;
+  };
+}
+
+function endWaitsOfWoken(state, trace, k) {
+  for (const { thread } of trace.woken.get(k) ?? []) state.endWait(thread);
 }
 
 function pay(state, pool, bytes) {

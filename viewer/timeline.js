@@ -4,6 +4,10 @@
 
 const LABEL_WIDTH = 116;
 const AXIS_HEIGHT = 26;
+const TIME_HEIGHT = 20;
+const LEAST_LANE_WITH_WORDS = 30;
+const LEAST_WORD = 20;
+const HATCH = 9;
 const MOST_SCALE = 48;
 const SEPARATE_MARKS = 7;
 const CELL = 4;
@@ -24,7 +28,7 @@ class Timeline {
     this.chosen = 0;
     this.matches = [];
     this.hidden = new Set();
-    this.drawn = { marks: 0, arrows: [], waits: [], fatals: [], labels: [] };
+    this.drawn = nothingDrawn();
     new ResizeObserver(() => this.resize()).observe(canvas.parentElement);
     matchMedia("(prefers-color-scheme: dark)").addEventListener("change", () => this.draw());
     this.listen();
@@ -47,7 +51,8 @@ class Timeline {
     if (!this.run) return;
     this.laneHeight = Math.max(12, Math.min(34, Math.floor(LANES_HEIGHT / this.threads.length)));
     this.width = this.canvas.parentElement.clientWidth;
-    this.overviewTop = AXIS_HEIGHT + this.laneHeight * this.threads.length + 6;
+    this.lanesTop = AXIS_HEIGHT + (this.run.ticks.length ? TIME_HEIGHT : 0);
+    this.overviewTop = this.lanesTop + this.laneHeight * this.threads.length + 6;
     this.height = this.overviewTop + OVERVIEW_HEIGHT + 4;
     if (this.isWhole) [this.start, this.scale] = [0, 0];
     const ratio = devicePixelRatio || 1;
@@ -113,7 +118,7 @@ class Timeline {
   }
 
   laneY(thread) {
-    return AXIS_HEIGHT + (this.laneOf[thread] + 0.5) * this.laneHeight;
+    return this.lanesTop + (this.laneOf[thread] + 0.5) * this.laneHeight;
   }
 
   draw() {
@@ -149,13 +154,15 @@ class Timeline {
     context.font = `${this.laneHeight < 16 ? 11 : 13}px system-ui, sans-serif`;
     context.textBaseline = "middle";
     this.context = context;
-    this.drawn = { marks: 0, arrows: [], waits: [], fatals: [], labels: [] };
+    this.drawn = nothingDrawn();
     this.first = Math.max(1, Math.floor(this.eventAt(LABEL_WIDTH)));
     this.last = Math.min(this.run.count, Math.ceil(this.eventAt(this.width)));
     this.drawLanes();
     this.clipped(context, () => {
       this.drawAxis();
+      this.drawTime();
       this.drawLives();
+      this.drawStops();
       this.drawWaits();
       this.drawArrows();
       if (this.scale >= SEPARATE_MARKS) this.drawMarks();
@@ -182,6 +189,10 @@ class Timeline {
       context.fillRect(0, y - this.laneHeight / 2, this.width, this.laneHeight);
       context.fillStyle = colours.colour("text");
       context.fillText(this.shortened(this.run.description.nameOfThread(thread)), 10, y);
+    }
+    if (this.run.ticks.length) {
+      context.fillStyle = colours.colour("faint");
+      context.fillText("virtual time", 10, AXIS_HEIGHT + TIME_HEIGHT / 2);
     }
   }
 
@@ -211,6 +222,47 @@ class Timeline {
     context.textAlign = "left";
   }
 
+  // A dashed line where virtual time goes on, with the tick that it goes on to. Where many share the pixels, some have it.
+  drawTime() {
+    const { ticks } = this.run;
+    if (ticks.length === 0 || this.isHidden("time")) return;
+    const { context, colours } = this;
+    const y = AXIS_HEIGHT + TIME_HEIGHT / 2;
+    context.fillStyle = context.strokeStyle = colours.colour("mark-time");
+    context.lineWidth = 1;
+    context.setLineDash([4, 3]);
+    let [lastX, free] = [-10, LABEL_WIDTH];
+    const isDense = this.scale < SEPARATE_MARKS;
+    const top = isDense ? this.lanesTop : AXIS_HEIGHT;
+    const from = firstAtLeast(ticks, this.first);
+    const seen = [ticks[from - 1] ?? { event: 0, time: 0 }, ...ticks.slice(from, firstAtLeast(ticks, this.last + 1))];
+    seen.forEach(({ event, time }, place) => {
+      const x = this.x(event);
+      if (x - lastX < 3) return;
+      lastX = x;
+      if (event > 0 && x >= LABEL_WIDTH) {
+        path(context, [[x, top], [x, this.overviewTop - 6]]);
+        context.globalAlpha = isDense ? FADED : 1;
+        context.stroke();
+        context.globalAlpha = 1;
+      }
+      const right = Math.max(LABEL_WIDTH, x) + 3;
+      const next = place + 1 < seen.length && !isDense ? this.x(seen[place + 1].event) + 1 : Infinity;
+      const label = [`tick ${time}`, String(time)].find((text) => context.measureText(text).width <= next - right) ?? "";
+      const { width } = context.measureText(label);
+      const left = right + width > this.width ? x - 3 - width : right;
+      const isLabelled = label !== "" && left >= free;
+      if (isLabelled) context.fillText(label, left, y);
+      if (isLabelled) free = left + width + 6;
+      this.drawn.ticks.push({ event, time, x, label: isLabelled ? label : "" });
+    });
+    context.setLineDash([]);
+  }
+
+  isHidden(group) {
+    return this.hidden.has(GROUP_NUMBER.get(group));
+  }
+
   // A band from a thread's start to its end.
   drawLives() {
     const { context, colours } = this;
@@ -234,13 +286,75 @@ class Timeline {
     if (to > from) this.context.fillRect(from, y - this.laneHeight / 2, to - from, this.laneHeight);
   }
 
-  // A bar from the wait to the resume, or to the end of the run.
+  // The lane of a thread that was killed is hatched up to its next start. That of one that is suspended, or aborted and not yet
+  // killed, is framed. Each says so, where there is room.
+  drawStops() {
+    if (this.isHidden("stopped")) return;
+    for (const thread of this.threads) {
+      for (const { start, end, word } of seenSpans(this.run.stops[thread], this.first, this.last)) {
+        const from = Math.max(LABEL_WIDTH, this.x(start));
+        const to = Math.min(this.width, this.x(end < 0 ? this.run.count + 0.5 : end));
+        if (to <= from) continue;
+        this.drawStop(from, to, this.laneY(thread), word);
+        this.drawn.stops.push({ thread, start, end, word });
+      }
+    }
+  }
+
+  drawStop(from, to, y, word) {
+    const { context, colours, laneHeight } = this;
+    const [top, bottom] = [y - laneHeight / 2 + 1, y + laneHeight / 2 - 1];
+    if (to - from < HATCH) {
+      context.fillStyle = colours.colour("stopped");
+      context.fillRect(from, top, to - from, bottom - top);
+      return;
+    }
+    context.save();
+    context.beginPath();
+    context.rect(from, top, to - from, bottom - top);
+    context.clip();
+    context.fillStyle = colours.colour("stopped");
+    context.fillRect(from, top, to - from, bottom - top);
+    context.strokeStyle = context.fillStyle = colours.colour("mark-stopped");
+    context.lineWidth = 1;
+    context.globalAlpha = 0.5;
+    if (word === "killed") {
+      for (let x = from - laneHeight; x < to; x += HATCH) {
+        path(context, [[x, bottom], [x + laneHeight, top]]);
+        context.stroke();
+      }
+    } else {
+      context.setLineDash([3, 3]);
+      context.strokeRect(from + 0.5, top + 0.5, to - from - 1, bottom - top - 1);
+    }
+    context.restore();
+    this.drawWord(word, from + 3, to, y + laneHeight / 2 - 7, { ink: "mark-stopped", paper: "stopped" });
+  }
+
+  // A small word in a lane, where it fits between two places.
+  drawWord(word, from, to, y, { ink, paper }) {
+    if (this.laneHeight < LEAST_LANE_WITH_WORDS || to - from < LEAST_WORD) return;
+    const { context, colours } = this;
+    const { font } = context;
+    context.font = "10px system-ui, sans-serif";
+    const { width } = context.measureText(word);
+    if (width <= to - from) {
+      context.fillStyle = colours.colour(paper);
+      context.fillRect(from - 1, y - 5, width + 2, 10);
+      context.fillStyle = colours.colour(ink);
+      context.fillText(word, from, y);
+      this.drawn.words.push(word);
+    }
+    context.font = font;
+  }
+
+  // A bar from the wait to the resume, to where it is cut, or to the end of the run; with its deadline.
   drawWaits() {
     const { context, colours } = this;
-    if (this.hidden.has(GROUP_NUMBER.get("wait"))) return;
+    if (this.isHidden("wait")) return;
     const height = Math.min(14, this.laneHeight - 8);
     for (const thread of this.threads) {
-      for (const wait of seenWaits(this.run.waits[thread], this.first, this.last)) {
+      for (const wait of seenSpans(this.run.waits[thread], this.first, this.last)) {
         const from = Math.max(LABEL_WIDTH - 4, this.x(wait.start));
         const to = Math.min(this.width + 4, wait.end < 0 ? this.x(this.run.count + 0.5) : this.x(wait.end));
         const y = this.laneY(thread) - height / 2;
@@ -249,27 +363,43 @@ class Timeline {
         context.lineWidth = 1;
         context.strokeStyle = colours.groups[GROUP_NUMBER.get("wait")];
         if (to - from > 3) context.strokeRect(from + 0.5, y + 0.5, to - from - 1, height - 1);
+        if (wait.isCut) this.drawCut(to, y, height);
+        if (wait.deadline >= 0) this.drawDeadline(wait, from, to, this.laneY(thread));
         if (this.drawn.waits.length < MOST_ARROWS) this.drawn.waits.push({ thread, ...wait });
       }
     }
   }
 
-  drawArrows() {
-    const { wakes } = this.run;
-    if (this.hidden.has(GROUP_NUMBER.get("wait"))) return;
-    const from = firstAtLeast(wakes, this.first);
-    const to = firstAtLeast(wakes, this.last + 1);
-    if (to - from > (this.scale < SEPARATE_MARKS ? FEW_ARROWS : MOST_ARROWS)) return;
-    for (const wake of wakes.slice(from, to)) this.drawArrow(wake);
+  drawDeadline({ deadline }, from, to, y) {
+    this.drawWord(`until tick ${deadline}`, from, to, y - this.laneHeight / 2 + 6, { ink: "mark-wait", paper: "waiting" });
   }
 
-  // From the waker's mark to the lane of the thread that it wakes.
-  drawArrow({ event, from, to }) {
+  // A stroke across the end of a bar says that the wait was cut.
+  drawCut(x, y, height) {
+    const { context, colours } = this;
+    context.save();
+    context.strokeStyle = colours.colour("mark-stopped");
+    stroked(context, [[x - 4, y + height + 3], [x + 4, y - 3]]);
+    context.restore();
+  }
+
+  drawArrows() {
+    const { arrows } = this.run;
+    const from = firstAtLeast(arrows, this.first);
+    const to = firstAtLeast(arrows, this.last + 1);
+    if (to - from > (this.scale < SEPARATE_MARKS ? FEW_ARROWS : MOST_ARROWS)) return;
+    for (const arrow of arrows.slice(from, to)) {
+      if (!this.isHidden(arrow.group) && arrow.from !== arrow.to) this.drawArrow(arrow);
+    }
+  }
+
+  // From the mark of what wakes or stops a thread to that thread's lane.
+  drawArrow({ event, from, to, group }) {
     const { context, colours } = this;
     const [x, y, end] = [this.x(event), this.laneY(from), this.laneY(to)];
     const way = end > y ? 1 : -1;
     const bow = x + 10;
-    context.strokeStyle = colours.colour("mark-wake");
+    context.strokeStyle = colours.colour(group === "wait" ? "mark-wake" : `mark-${group}`);
     context.fillStyle = context.strokeStyle;
     context.lineWidth = this.scale < SEPARATE_MARKS ? 1 : 2;
     context.beginPath();
@@ -277,7 +407,7 @@ class Timeline {
     context.bezierCurveTo(bow, y + way * 10, bow, end - way * 16, x + 3, end - way * 8);
     context.stroke();
     filled(context, [[x, end - way], [x - 2.5, end - way * 10], [x + 7.5, end - way * 8]]);
-    this.drawn.arrows.push({ event, from, to, x, y, end });
+    this.drawn.arrows.push({ event, from, to, group, x, y, end });
   }
 
   drawMarks() {
@@ -351,7 +481,7 @@ class Timeline {
         const count = counts[place * GROUPS.length + group];
         if (count === 0) continue;
         const height = (heights[place] * count) / totals[place];
-        const top = AXIS_HEIGHT + (Math.floor(place / cells) + 0.5) * this.laneHeight - heights[place] / 2;
+        const top = this.lanesTop + (Math.floor(place / cells) + 0.5) * this.laneHeight - heights[place] / 2;
         this.context.fillRect(LABEL_WIDTH + (place % cells) * CELL, top + drawn[place], CELL - 1, height);
         drawn[place] += height;
         this.drawn.marks += 1;
@@ -415,19 +545,30 @@ class Timeline {
     this.draw();
   }
 
-  // Says what a mark means, where the pointer is on one.
+  // Says what a mark means, where the pointer is on one; else how a thread is stopped there, and until when it waits at the most.
   hover(x, y) {
     const k = x > LABEL_WIDTH && y < this.overviewTop ? this.eventAtPoint(x, y) : 0;
     const isOn = k > 0 && Math.abs(this.laneY(this.run.trace.who[k]) - y) <= this.laneHeight / 2;
-    const told = isOn ? k : 0;
+    const told = isOn ? k : this.spansAt(x, y);
     if (told === this.hovered) return;
     this.hovered = told;
-    this.canvas.title = told ? `${told}: ${this.run.trace.line(told)}\n${explain(this.run, told)[0]}` : "";
+    this.canvas.title = isOn ? `${told}: ${this.run.trace.line(told)}\n${explain(this.run, told)[0]}` : told;
+  }
+
+  spansAt(x, y) {
+    const thread = this.threads[Math.floor((y - this.lanesTop) / this.laneHeight)];
+    if (thread === undefined || x <= LABEL_WIDTH) return "";
+    const k = Math.floor(this.eventAt(x));
+    const name = this.run.description.nameOfThread(thread);
+    const stop = seenSpans(this.run.stops[thread], k, k).at(-1);
+    const wait = seenSpans(this.run.waits[thread], k, k).find(({ deadline }) => deadline >= 0);
+    const told = [stop && `${name} is ${stop.word}.`, wait && `${name} waits until tick ${wait.deadline} at the most.`];
+    return told.filter((sentence) => sentence).join("\n");
   }
 
   // The event that a click at a point means: that of the place, or the one that weighs most where many share it.
   eventAtPoint(x, y) {
-    const lane = Math.floor((y - AXIS_HEIGHT) / this.laneHeight);
+    const lane = Math.floor((y - this.lanesTop) / this.laneHeight);
     const near = Math.max(CELL, 6) / this.scale;
     const middle = this.eventAt(x);
     if (this.scale >= SEPARATE_MARKS) return Math.max(0, Math.min(this.run.count, Math.floor(middle)));
@@ -487,8 +628,13 @@ function firstAtLeast(list, k, key = "event") {
   return low;
 }
 
-// The waits of a thread that reach into the events from first to last. Waits of one thread follow one another.
-function seenWaits(waits, first, last) {
-  const from = Math.max(0, firstAtLeast(waits, first, "start") - 1);
-  return waits.slice(from, firstAtLeast(waits, last + 1, "start")).filter(({ end }) => end < 0 || end >= first);
+// The waits or stops of a thread that reach into the events from first to last. Those of one thread follow one another.
+function seenSpans(spans, first, last) {
+  const from = Math.max(0, firstAtLeast(spans, first, "start") - 1);
+  return spans.slice(from, firstAtLeast(spans, last + 1, "start")).filter(({ end }) => end < 0 || end >= first);
+}
+
+// What was painted last, for those who ask.
+function nothingDrawn() {
+  return { marks: 0, arrows: [], waits: [], fatals: [], labels: [], ticks: [], stops: [], words: [] };
 }

@@ -4,7 +4,8 @@
 const EVENT_KINDS = [
   "begin", "check", "load", "store", "exec", "fault", "probe", "copyin", "copyout", "copystr", "erase", "act", "resume",
   "reply", "grant", "own", "inherit", "drop", "public", "setinit", "uninit", "name", "reserve", "born", "buffer",
-  "unbuffer", "recycle", "domain", "start", "user", "fatal", "doom", "exit",
+  "unbuffer", "recycle", "domain", "start", "user", "fatal", "doom", "exit", "arm", "tick", "timeout", "expire", "abort",
+  "suspend", "continue", "killed", "cut", "join", "left", "futex",
 ];
 const KIND_NUMBER = new Map(EVENT_KINDS.map((kind, number) => [kind, number]));
 
@@ -12,7 +13,7 @@ const KIND_NUMBER = new Map(EVENT_KINDS.map((kind, number) => [kind, number]));
 const VERDICTS = [
   "", "ok", "gone", "kept", "none", "wait", "void", "NULL", "number", "address", "unreadable", "toolong",
   "EPERM", "EBADF", "EINVAL", "EADDRINUSE", "EFAULT", "EBUSY", "EAGAIN", "ENOMEM", "ENOMSG", "ENOSPC", "ENOENT",
-  "EPIPE", "ECANCELED",
+  "EPIPE", "ECANCELED", "EDEADLK", "EACCES", "ETIMEDOUT",
 ];
 const VERDICT_NUMBER = new Map(VERDICTS.map((verdict, number) => [verdict, number]));
 const FIRST_ERROR = VERDICT_NUMBER.get("EPERM");
@@ -30,13 +31,19 @@ const FORMS = {
   reply: "reply", grant: "thread object given", own: "thread given", inherit: "thread object",
   drop: "thread object left", public: "object given", setinit: "object set", uninit: "object", name: "thread",
   reserve: "kind reserved", born: "object", buffer: "size paid", unbuffer: "size", recycle: "object", start: "thread",
-  user: "", fatal: "reason cause", doom: "index", exit: "",
+  user: "", fatal: "reason cause", doom: "index", exit: "", arm: "time", tick: "time", timeout: "thread", expire: "object",
+  abort: "thread marked", suspend: "thread marked", continue: "thread marked", killed: "", cut: "thread",
+  join: "thread answer", left: "thread",
 };
 for (const kind in FORMS) FORMS[kind] = FORMS[kind].split(" ").filter((field) => field !== "");
 const DOMAIN_FORMS = { init: ["reply"], add: ["part", "reply"], remove: ["part", "reply"], move: ["thread", "reply"] };
+const FUTEX_FORMS = { wait: ["memory", "value", "compared"], wake: ["memory", "reply"] };
+// The kinds of events behind whose words the threads stand that they wake.
+const WAKING_KINDS = new Set(["act", "expire", "left", "futex wake"]);
 
 const MEMORY_WORD = /^0x[0-9a-f]{8}$/;
 const COUNT_WORD = /^\d{1,10}$/;
+const TIME_WORD = /^\d{1,15}$/;
 const PART_WORD = /^(0x[0-9a-f]{8})\/(\d{1,10})\/(P_\w+)$/;
 
 class Trace {
@@ -63,6 +70,8 @@ class Trace {
     this.addr = new Uint32Array(most + 2);
     this.size = new Uint32Array(most + 2);
     this.value = new Uint32Array(most + 2);
+    // Ticks of virtual time, which may take more than 32 bits.
+    this.time = new Float64Array(most + 2);
   }
 
   // Reads all lines up to the first one that can't be read; now and then `pause` is awaited, with the part that is read. Throws
@@ -109,9 +118,9 @@ class Trace {
 
   readFields(k, words, line) {
     const isDomain = words[1] === "domain";
-    const form = isDomain ? DOMAIN_FORMS[words[2]] : FORMS[words[1]];
+    const form = { domain: DOMAIN_FORMS, futex: FUTEX_FORMS }[words[1]]?.[words[2]] ?? FORMS[words[1]];
     if (!form) this.refuse(line, "it is no line of a run");
-    const first = isDomain ? 4 : 2;
+    const first = { domain: 4, futex: 3 }[words[1]] ?? 2;
     if (isDomain) this.row[k] = this.description.domains.indexOf(words[3]);
     if (isDomain && this.row[k] < 0) this.refuse(line, `the description has no domain "${words[3]}"`);
     for (let place = 0; place < form.length; place += 1) {
@@ -121,11 +130,12 @@ class Trace {
       }
     }
     const last = first + form.length;
-    if (words[1] === "act") this.readWoken(k, words, last, line);
+    const kind = words[1] === "futex" ? `futex ${words[2]}` : words[1];
+    if (WAKING_KINDS.has(kind)) this.readWoken(k, words, last, line);
     else if (words.length > last) this.refuse(line, "it goes on too long");
   }
 
-  // The threads that an act wakes, each with its reply.
+  // The threads that an event wakes, each with its reply.
   readWoken(k, words, at, line) {
     const woken = [];
     for (; at < words.length; at += 3) {
@@ -205,7 +215,7 @@ class Trace {
 const DUMP_LINES = [
   /^dump$/,
   /^thread \S+ (unborn|(doomed|ended|ready|waits:\S+) (user|supervisor) -?\d+ \S+)$/,
-  /^object \S+ (thread|thread_stack|sem|mutex|msgq|stack|pipe) (init|uninit|gone) (public|private) \S+ \S+$/,
+  /^object \S+ (thread|thread_stack|sem|mutex|msgq|stack|pipe|timer) (init|uninit|gone) (public|private) \S+ \S+$/,
   /^domain \S+ \S+$/,
   /^pool \S+ \d+\/\d+$/,
   /^memory 0x[0-9a-f]{8} [0-9a-f]{64}$/,
@@ -254,6 +264,8 @@ const FIELDS = {
   paid: verdictField("ok", "ENOMEM"),
   given: verdictField("ok", "gone"),
   left: verdictField("kept", "gone", "none"),
+  marked: verdictField("ok", "none"),
+  compared: verdictField("wait", ...ERRORS),
   set: verdictField("ok", "gone", "EADDRINUSE", "EBADF"),
   cause: verdictField(...CAUSES),
   memory(trace, k, word) {
@@ -263,6 +275,10 @@ const FIELDS = {
   value(trace, k, word) {
     trace.value[k] = Number(word);
     return /^0x(0|[1-9a-f][0-9a-f]{0,7})$/.test(word);
+  },
+  time(trace, k, word) {
+    trace.time[k] = Number(word);
+    return TIME_WORD.test(word);
   },
   length(trace, k, word) {
     if (COUNT_WORD.test(word)) trace.size[k] = Number(word);

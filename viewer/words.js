@@ -28,7 +28,7 @@ class Telling {
     this.row = trace.objectRow(k);
     const address = this.words.find((word) => MEMORY_WORD.test(word)) ?? "";
     this.object = this.row < 0 ? address : description.nameOfRow(this.row);
-    this.size = this.kind === "exec" || this.words[2] === "exec" ? 4 : trace.size[k];
+    this.size = this.words[2] === "exec" ? 4 : SIZES[this.kind] ?? trace.size[k];
     this.start = trace.addr[k];
     this.place = [description.placeName(this.start), addressText(this.start)].filter((part) => part).join(", ");
     this.before = run.stateAfter(k - 1);
@@ -44,13 +44,33 @@ class Telling {
     const { before, run, k } = this;
     const ofThread = this.kind === "drop" ? run.description.rowOfThread(run.trace.peer[k]) : -1;
     const isCleaning = ofThread >= 0 && before.stage[ofThread] === STAGE.gone;
-    return before.life[this.thread] === LIFE.started && !isCleaning && !["exit", "recycle", "doom"].includes(this.kind);
+    return before.life[this.thread] === LIFE.started && !isCleaning && !OF_NO_LINE.includes(this.kind);
+  }
+
+  // The longest that a thread waits, behind what it waits for.
+  get waitEnd() {
+    return deadlineText(this.before, this.thread, ", until tick ", " at the most");
+  }
+
+  // Whom the event wakes, each in a sentence.
+  wakes() {
+    const { description } = this.run;
+    return this.woken.map(({ thread, reply }) => `It wakes ${description.nameOfThread(thread)}, which is answered ${reply}.`);
+  }
+
+  // The event that aborted a thread last, for one that is cut or killed.
+  abortOf(thread) {
+    const { trace } = this.run;
+    let at = this.k - 1;
+    while (at >= 1 && !(trace.kindWord(at) === "abort" && trace.peer[at] === thread && trace.verdictWord(at) === "ok")) at -= 1;
+    return at >= 1 ? [`It was aborted by event ${at}: ${trace.line(at)}`] : [];
   }
 
   // What the thread may reach, for one that reached too far.
   reach() {
     const { before, thread, run } = this;
-    const regions = run.rights.regions.filter((region) => before.access(thread, region) !== "").map((region) => {
+    const isReached = (region) => region.what !== "futex" && before.access(thread, region) !== "";
+    const regions = run.rights.regions.filter(isReached).map((region) => {
       const end = addressText(region.start + region.size - 1);
       return `${region.name} (${addressText(region.start)} to ${end}, ${accessLabel(before, thread, region)})`;
     });
@@ -100,6 +120,43 @@ class Telling {
   }
 }
 
+// What a thread makes for others or for its own end, and no line asks for.
+const OF_NO_LINE = ["exit", "recycle", "doom", "tick", "timeout", "expire", "killed", "cut", "left"];
+
+// The deadline of a thread's call between two words, where it has one; else nothing.
+function deadlineText(state, thread, front, back = "") {
+  return state.deadline[thread] < 0 ? "" : `${front}${state.deadline[thread]}${back}`;
+}
+
+// Virtual time, and which deadlines have come or are ahead, with the threads and timers whose they are.
+function clockText(state) {
+  const { description, now } = state;
+  const whose = (deadline) => [
+    ...threadsWhere((thread) => state.waits(thread) && state.deadline[thread] === deadline),
+    ...description.objects.filter(({ row }) => state.expires[row] === deadline),
+  ].map((one) => one.name ?? description.nameOfThread(one));
+  const told = (deadline) => `${deadline}${whose(deadline).length ? ` (${whose(deadline).join(", ")})` : ""}`;
+  const isOpen = (deadline) => deadline >= 0 && deadline <= now && whose(deadline).length > 0;
+  const come = sorted(new Set([...state.deadline, ...state.expires])).filter(isOpen);
+  const ahead = state.armed.slice(0, MOST_DEADLINES).map(told).join(", ");
+  const more = state.armed.length > MOST_DEADLINES ? ` and ${state.armed.length - MOST_DEADLINES} more` : "";
+  return [
+    `Virtual time is tick ${now}.`,
+    ...(come.length ? [`Deadlines that have come: ${come.map(told).join(", ")}.`] : []),
+    ahead ? `Deadlines ahead: ${ahead}${more}.` : "No deadline is ahead.",
+  ].join(" ");
+}
+
+const MOST_DEADLINES = 12;
+
+// What a thread waits for.
+function awaited(state, thread) {
+  if (state.waitsAt[thread] > 0) return `the futex ${state.description.nameOfFutex(state.waitsAt[thread])}`;
+  const row = state.waitsOn[thread];
+  const name = state.description.nameOfRow(row);
+  return state.description.kindOfRow(row) === "thread" ? `the end of ${name}` : name;
+}
+
 // Why a thread lacks a right in a region, in the words of its user.
 function whyClosed(state, thread, region, rights, who) {
   const { description } = state;
@@ -121,6 +178,17 @@ const REFUSALS = {
   EADDRINUSE: (told) => `${told.object} should not be initialised, and is.`,
 };
 
+const NOTHING_LEFT = {
+  k_thread_join: "So there is no end left to wait for, and the join answers 0.",
+  k_thread_abort: "So there is nothing left to stop, and the abort answers void.",
+};
+
+// The two calls for which a thread that isn't initialised is no error.
+function nothingLeft(told) {
+  const call = told.before.words(told.thread)[0];
+  return told.verdict === "EINVAL" && call in NOTHING_LEFT ? [NOTHING_LEFT[call]] : [];
+}
+
 const CAUSES_TOLD = {
   access: "it reached memory that it may not reach", privileged: "it made a call that is for supervisors alone",
   k_oops: "it called k_oops", k_panic: "it called k_panic", size: "the stack was given too large a size",
@@ -140,13 +208,88 @@ function copied(way, right, did) {
 }
 
 function served(told) {
-  const sentences = [told.verdict === "wait"
-    ? `${told.who} begins to wait on ${told.object}.`
-    : `A service acts on ${told.object}, and answers ${told.words[3]}.`];
-  for (const { thread, reply } of told.woken) {
-    sentences.push(`It wakes ${told.run.description.nameOfThread(thread)}, which is answered ${reply}.`);
+  const sentence = told.verdict === "wait"
+    ? `${told.who} begins to wait on ${told.object}${told.waitEnd}.`
+    : `A service acts on ${told.object}, and answers ${told.words[3]}.`;
+  return [sentence, ...told.wakes()];
+}
+
+function ticks(count) {
+  return `${count} ${count === 1 ? "tick" : "ticks"}`;
+}
+
+function armed(told) {
+  const { before, thread, run, k } = told;
+  const [call, word] = before.words(thread);
+  const whose = call === "k_timer_start" ? `the timer ${run.description.nameAt(before.term(thread, word))}` : "its call";
+  const deadline = run.trace.time[k];
+  return `${told.who} arms a deadline for ${whose}: tick ${deadline}, ${ticks(deadline - before.now)} from now.`;
+}
+
+function timedOut(told) {
+  const peer = told.run.trace.peer[told.k];
+  const { before } = told;
+  const error = before.waitsAt[peer] > 0 ? "ETIMEDOUT" : "EAGAIN";
+  const sentence = `The deadline${deadlineText(before, peer, ", tick ", ",")} of ${told.peer} has come.`;
+  if (!before.waits(peer)) return sentence;
+  return [sentence, `It waits for ${awaited(before, peer)} no longer, and its call answers ${error}.`];
+}
+
+function expired(told) {
+  const sentence = `The timer ${told.object} runs out at tick ${told.before.now}, and stops.`;
+  if (told.woken.length) return [sentence, ...told.wakes()];
+  const status = told.before.count[told.row] + 1;
+  return [sentence, `Nobody waits for it, so its status is ${status} until somebody asks.`];
+}
+
+function aborted(told) {
+  if (told.verdict === "none") return `${told.peer} doesn't live, so there is nothing to stop.`;
+  if (told.peer === told.who) return `${told.who} aborts itself: it is killed in place of a reply.`;
+  const [peer, { before }] = [told.run.trace.peer[told.k], told];
+  const waits = before.waits(peer) ? ` It waits for ${awaited(before, peer)}, and will be cut.` : "";
+  return `${told.who} aborts ${told.peer}, which begins no line any more, and ends at its next rest.${waits}`;
+}
+
+function joined(told) {
+  const answers = {
+    wait: `${told.who} begins to wait for the end of ${told.peer}${told.waitEnd}.`,
+    EBUSY: `${told.peer} hasn't ended yet, and ${told.who} doesn't wait: the answer is EBUSY.`,
+    EDEADLK: told.peer === told.who
+      ? `${told.who} would wait for its own end: the answer is EDEADLK.`
+      : `${told.peer} itself waits for the end of ${told.who}: the answer is EDEADLK.`,
+  };
+  return answers[told.verdict] ?? `${told.peer} doesn't live, or its end has begun: ${told.who} is answered ${told.words[3]}.`;
+}
+
+function futexed(told) {
+  const { who, verdict, words, place, run, start } = told;
+  const isWait = words[2] === "wait";
+  const isNamed = run.description.futexes.some((one) => one.start === start);
+  const futex = isNamed ? `the futex ${run.description.nameOfFutex(start)} (${place})` : place;
+  const value = `${futex.replace(/^t/, "T")} has the value ${words[4]}`;
+  if (verdict === "EACCES") {
+    const did = isWait ? "wait" : "wake threads";
+    return [`${who} may not ${did} on ${futex}: EACCES.`, ...told.lack("r", `it would ${did} at`), told.reach()];
   }
-  return sentences;
+  if (verdict === "EINVAL") return `No futex is at ${place}: the answer is EINVAL.`;
+  if (!isWait) return [`${who} wakes who waits on ${futex}: ${woken(told.woken.length)}.`, ...told.wakes()];
+  return {
+    wait: `${value}, so ${who} begins to wait there${told.waitEnd}.`,
+    EAGAIN: `${value.replace(" has ", " hasn't ")}, so ${who} doesn't wait: the answer is EAGAIN.`,
+    ETIMEDOUT: `${value}, but ${who} doesn't wait: the answer is ETIMEDOUT.`,
+  }[verdict] ?? `${who} asks to wait on ${futex}, and is answered ${words[5]}.`;
+}
+
+function woken(count) {
+  if (count === 0) return "nobody does";
+  return count === 1 ? "one thread" : `${count} threads`;
+}
+
+// A woken thread goes on, or one whose wait ended at its deadline.
+function resumed(told) {
+  const wait = told.run.waits[told.thread].find(({ end }) => end === told.k);
+  if (wait?.timeout) return `${told.who} waits no longer, since its deadline has come, and goes on.`;
+  return `${told.who} was woken, and goes on.`;
 }
 
 // The event that a fatal error comes from: the last one of its own thread's line that was refused with its cause, or 0.
@@ -195,7 +338,7 @@ const EXPLAINED = {
     + told.run.description.lineWords(told.run.trace.row[told.k], told.size).join(" "),
   check: (told) => (told.verdict === "ok"
     ? `${told.who} names ${told.object}, and may: the check is passed. The object is held until the call ends.`
-    : [`The check of ${told.object} is refused with ${told.verdict}.`, REFUSALS[told.verdict](told)]),
+    : [`The check of ${told.object} is refused with ${told.verdict}.`, REFUSALS[told.verdict](told), ...nothingLeft(told)]),
   load: (told) => `${told.who} loads ${told.bytes} at ${told.place}: ${told.words[4]}.`,
   store: (told) => `${told.who} stores ${told.bytes} at ${told.place}: ${told.words[4]}.`,
   exec: (told) => `${told.who} fetches an instruction at ${told.place}.`,
@@ -211,7 +354,7 @@ const EXPLAINED = {
   })[told.verdict] ?? `The kernel reads a string of ${told.bytes} at ${told.place}.`,
   erase: (told) => `The thread stack ${told.object} is filled with zeros.`,
   act: served,
-  resume: (told) => `${told.who} was woken, and goes on.`,
+  resume: resumed,
   reply: (told) => `The call of ${told.who} answers ${told.words[2]}, and holds nothing any more.`,
   grant: (told) => (told.verdict === "ok"
     ? `${told.peer} has a permission on ${told.object} from now on.`
@@ -251,4 +394,24 @@ const EXPLAINED = {
   fatal,
   doom: (told) => `The thread index ${told.size} is doomed: its thread begins no line any more.`,
   exit: (told) => `${told.who} has made its last line, and ends.`,
+  arm: armed,
+  tick: (told) => `Virtual time goes on from tick ${told.before.now} to ${told.words[2]}, the next deadline that was armed.`,
+  timeout: timedOut,
+  expire: expired,
+  abort: aborted,
+  suspend: (told) => (told.verdict === "ok"
+    ? `${told.peer} is suspended: it begins no line until it is resumed. A call in progress goes on.`
+    : `${told.peer} doesn't live, so there is nothing to suspend.`),
+  continue: (told) => (told.verdict === "ok"
+    ? `${told.peer} isn't suspended any more, and may begin lines.`
+    : `${told.peer} doesn't live, so there is nothing to go on.`),
+  killed: (told) => [`${told.who} is killed: it drops what its call holds, and ends.`, ...told.abortOf(told.thread)],
+  cut: (told) => {
+    const peer = told.run.trace.peer[told.k];
+    const what = told.before.waits(peer) ? `for ${awaited(told.before, peer)} no longer` : "no longer";
+    return [`${told.peer} is cut: it waits ${what}, and its call doesn't answer.`, ...told.abortOf(peer)];
+  },
+  join: joined,
+  left: (told) => [`${told.peer} has ended but for its thread object, so who waits for its end goes on.`, ...told.wakes()],
+  futex: futexed,
 };

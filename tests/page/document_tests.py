@@ -63,19 +63,22 @@ def schema_marks_lines() -> None:
         return faults_by_schema(script=[{"name": "m", "lines": [line]}]) != []
 
     right = ["repeat 5", " end ", "load r0 @p+4 1", "k_mem_domain_init d", "k_mem_domain_init d p 0x20000000/64/P_RX_U_RX",
-             "k_thread_create @t @s 64 c -1 K_USER+K_INHERIT_PERMS", "k_sem_take r7  K_FOREVER"]  # fmt: skip
+             "k_thread_create @t @s 64 c -1 K_USER+K_INHERIT_PERMS", "k_sem_take r7  K_FOREVER", "k_sem_take r7 K_TICKS(5)",
+             "k_timer_start @tm 3", "k_timer_status_sync @tm r0"]  # fmt: skip
     wrong = ["", "repat 5", "repeat", "repeat r0", "load @p r0 4", "load r0 @p 3", "store @p 4 0xAB", "k_sem_take s K_FOREVER", "k_sem_give @s @t",
-             "k_mem_domain_init d p p p p p", "set\tr0 1", "k_object_alloc queue r0", "k_msgq_get @q @p K_MSEC(1)"]  # fmt: skip
+             "k_mem_domain_init d p p p p p", "set\tr0 1", "k_object_alloc queue r0", "k_msgq_get @q @p K_MSEC(1)", "k_sem_take r7 K_TICKS()",
+             "k_sem_take r7 K_TICKS(00000001)", "k_timer_start @tm", "k_timer_stop @tm 1", "k_object_alloc timer r0"]  # fmt: skip
     same("lines that are marked without a fault", [line for line in right if marked(line)], [])
     same("lines with a fault that aren't marked", [line for line in wrong if not marked(line)], [])
 
 
 def schema_says_what_is_wrong_of_an_object() -> None:
     cases = [
-        ({"name": "x", "kind": "queue"}, "'queue' is not one of ['thread', 'thread_stack', 'sem', 'mutex', 'msgq', 'stack', 'pipe']"),
+        ({"name": "x", "kind": "queue"}, "'queue' is not one of ['thread', 'thread_stack', 'sem', 'mutex', 'msgq', 'stack', 'pipe', 'timer']"),
         ({"name": "x", "kind": "sem", "count": 1}, "'limit' is a dependency of 'count'"),
         ({"name": "x", "kind": "thread_stack"}, "'size' is a required property"),
         ({"name": "x", "kind": "mutex", "limit": 1}, "Additional properties are not allowed ('limit' was unexpected)"),
+        ({"name": "x", "kind": "timer", "size": 1}, "Additional properties are not allowed ('size' was unexpected)"),
     ]
     for wrong, wanted in cases:
         same(f"what is said of {wrong}", faults_by_schema(object=[wrong]), [wanted])

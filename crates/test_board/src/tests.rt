@@ -253,6 +253,52 @@ fn a_hold_keeps_a_threads_domain(rt: HostRuntime) -> Result<(), NoBoard> {
     Ok(())
 }
 
+/// Whether a call by the second thread on the first is recorded, on a word with this note, and leaves this word.
+fn leaves(at: &mut Seated<'_>, call: ThreadCall, note: Option<u16>, word: u64) -> bool
+    requires on { OnThread at.old 0 }
+    ensures stays { Remains at.old at.new }
+{
+    match recorded(at, FIRST, SECOND, call) {
+        Some(before) => before.note == note && stands(at, 128, word),
+        None => false,
+    }
+}
+
+/// An aborted thread begins nothing. Who aborts it sees which cell it noted, and it is killed.
+#[test]
+fn an_aborted_thread_is_killed(rt: HostRuntime) -> Result<(), NoBoard> {
+    seated!(rt, at, WORDS, 128, 0x41);
+    let at = &mut at;
+    assert!(rt; at.thread(FIRST, FIRST, ThreadCall::Killed).is_none());
+    assert!(rt; at.thread(FIRST, FIRST, ThreadCall::Note(309)).is_none());
+    assert!(rt; leaves(at, ThreadCall::Note(168), None, 0x0000_0010_0005_4441));
+    let aborted = 0x0000_0020_0005_4541;
+    assert!(rt; leaves(at, ThreadCall::Abort, Some(168), aborted));
+    assert!(rt;
+        forbids(at, FIRST, BEGIN, aborted) && forbids(at, FIRST, ThreadCall::Exit, aborted)
+    );
+    assert!(rt; leaves(at, ThreadCall::Killed, Some(168), 0x0000_0030_0000_0142));
+    assert!(rt; leaves(at, ThreadCall::Abort, None, 0x0000_0040_0000_0142));
+    Ok(())
+}
+
+/// A suspended thread begins nothing until it may continue.
+#[test]
+fn a_suspended_thread_continues(rt: HostRuntime) -> Result<(), NoBoard> {
+    seated!(rt, at, WORDS, 128, 0x41);
+    let at = &mut at;
+    let suspended = 0x0000_0010_0000_0241;
+    assert!(rt; leaves(at, ThreadCall::Suspend, None, suspended));
+    assert!(rt;
+        forbids(at, FIRST, BEGIN, suspended) && forbids(at, FIRST, ThreadCall::Exit, suspended)
+    );
+    assert!(rt; leaves(at, ThreadCall::Continue, None, 0x0000_0020_0000_0041));
+    assert!(rt; recorded(at, FIRST, FIRST, BEGIN).is_some());
+    assert!(rt; recorded(at, FIRST, FIRST, ThreadCall::Exit).is_some());
+    assert!(rt; leaves(at, ThreadCall::Suspend, None, 0x0000_0050_0000_0042));
+    Ok(())
+}
+
 /// A thread from its start to its end.
 #[test]
 fn a_thread_starts_and_ends(rt: HostRuntime) -> Result<(), NoBoard> {

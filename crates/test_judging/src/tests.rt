@@ -15,11 +15,43 @@ use std::test::Fail;
 use um_base::{Act, Event, THREADS, ThreadIx};
 use um_image::read_image;
 use um_machine::Pending;
-use um_matrix::Matrix;
-use um_samples::{DOMAINS, HALT, OBJECTS, RACE};
+use um_matrix::{Matrix, Tables};
+use um_samples::{DOMAINS, FUTEX_WAKE, HALT, OBJECTS, RACE, described};
 
 /// How many kinds of events there are.
-const KINDS: usize = 36;
+const KINDS: usize = 49;
+
+/// `a` waits in vain for a semaphore, and then for a timer; `b` waits longer, and `c` ends before the timer that it starts.
+const TIMED: &str = described!(
+    "domain = [{name = \"d\", partitions = []}]
+object = [{name = \"a\", kind = \"thread\"}, {name = \"sa\", kind = \"thread_stack\", size = 64},
+ {name = \"b\", kind = \"thread\"}, {name = \"sb\", kind = \"thread_stack\", size = 64},
+ {name = \"c\", kind = \"thread\"}, {name = \"sc\", kind = \"thread_stack\", size = 64},
+ {name = \"s\", kind = \"sem\", count = 0, limit = 1}, {name = \"w\", kind = \"timer\"}, {name = \"u\", kind = \"timer\"}]
+boot = [{thread = \"a\", stack = \"sa\", script = \"ca\", priority = 0, domain = \"d\", grants = [\"s\", \"w\"]},
+ {thread = \"b\", stack = \"sb\", script = \"cb\", priority = 0, domain = \"d\", grants = [\"s\"]},
+ {thread = \"c\", stack = \"sc\", script = \"cc\", priority = 0, domain = \"d\", grants = [\"u\"]}]
+script = [{name = \"ca\", lines = [\"k_sem_take @s K_TICKS(2)\", \"k_timer_start @w 3\", \"k_timer_status_sync @w r0\"]},
+ {name = \"cb\", lines = [\"k_sem_take @s K_TICKS(4)\"]},
+ {name = \"cc\", lines = [\"k_timer_start @u 9\"]}]
+"
+);
+
+/// `a` joins `b`, which waits; `c` suspends `b`, lets it continue and aborts it.
+const STOPPED: &str = described!(
+    "domain = [{name = \"d\", partitions = []}]
+object = [{name = \"a\", kind = \"thread\"}, {name = \"sa\", kind = \"thread_stack\", size = 64},
+ {name = \"b\", kind = \"thread\"}, {name = \"sb\", kind = \"thread_stack\", size = 64},
+ {name = \"c\", kind = \"thread\"}, {name = \"sc\", kind = \"thread_stack\", size = 64},
+ {name = \"s\", kind = \"sem\", count = 0, limit = 1}]
+boot = [{thread = \"a\", stack = \"sa\", script = \"ca\", priority = 0, domain = \"d\", grants = [\"b\"]},
+ {thread = \"b\", stack = \"sb\", script = \"cb\", priority = 0, domain = \"d\", grants = [\"s\"]},
+ {thread = \"c\", stack = \"sc\", script = \"cc\", priority = 0, domain = \"d\", grants = [\"b\"]}]
+script = [{name = \"ca\", lines = [\"k_thread_join @b K_FOREVER\"]},
+ {name = \"cb\", lines = [\"k_sem_take @s K_FOREVER\"]},
+ {name = \"cc\", lines = [\"k_thread_suspend @b\", \"k_thread_resume @b\", \"k_thread_abort @b\"]}]
+"
+);
 
 /// More fields than any event has.
 const FIELDS: usize = 5;
@@ -63,11 +95,24 @@ fn kind_of(act: &Act) -> usize {
         Act::Fatal { .. } => 33,
         Act::Doom { .. } => 34,
         Act::Exit => 35,
+        Act::Arm { .. } => 36,
+        Act::Tick { .. } => 37,
+        Act::TimedOut { .. } => 38,
+        Act::Expire { .. } => 39,
+        Act::Abort { .. } => 40,
+        Act::Suspend { .. } => 41,
+        Act::Continue { .. } => 42,
+        Act::Cut { .. } => 43,
+        Act::Killed => 44,
+        Act::Join { .. } => 45,
+        Act::Left { .. } => 46,
+        Act::FutexWait { .. } => 47,
+        Act::FutexWake { .. } => 48,
     }
 }
 
 /// What a thread says by a step, with the first row that it may choose.
-fn act_with(ahead: &Matrix<'_>, t: usize, step: &Pending) -> Option<Act>
+fn act_with(ahead: &Tables<'_>, t: usize, step: &Pending) -> Option<Act>
     requires thread { t < THREADS }
     requires sound { IsSound step.now }
 {
@@ -80,7 +125,7 @@ fn act_with(ahead: &Matrix<'_>, t: usize, step: &Pending) -> Option<Act>
 }
 
 /// What a thread says by its next step, or by the one after it where that may be left out.
-fn act_by(ahead: &Matrix<'_>, t: usize) -> Option<Act>
+fn act_by(ahead: &Tables<'_>, t: usize) -> Option<Act>
     requires { t < THREADS }
 {
     let step = match ahead.next_step(t) {
@@ -100,7 +145,7 @@ fn act_by(ahead: &Matrix<'_>, t: usize) -> Option<Act>
 fn event_from(ahead: &Matrix<'_>, first: u8) -> Option<Event> {
     for k in 0..3 {
         let thread = (first % 3 + k) % 3;
-        if let Some(act) = act_by(ahead, thread as usize) {
+        if let Some(act) = act_by(ahead.tables(), thread as usize) {
             return Some(Event {
                 thread: ThreadIx(thread),
                 act,
@@ -166,7 +211,7 @@ fn judged(rt: &impl Abort, alloc: Global, text: &str, seen: &mut [bool]) -> Resu
 #[test]
 fn each_kind_of_event_is_judged(rt: HostRuntime) -> Result<(), Fail> {
     let mut seen = [false; KINDS];
-    for text in [DOMAINS, OBJECTS, RACE, HALT] {
+    for text in [DOMAINS, OBJECTS, RACE, HALT, TIMED, STOPPED, FUTEX_WAKE] {
         judged(&rt, rt.alloc(), text, &mut seen)?;
     }
     for (kind, mark) in seen.iter().enumerate() {

@@ -1,2 +1,3 @@
+mod later;
 mod orders;
 mod steps;

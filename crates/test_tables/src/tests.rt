@@ -23,6 +23,8 @@ macro_rules! is_made {
 mod contexts;
 mod events;
 mod memory;
+mod stops;
+mod waits;
 
 ghost use Rattle.std.specs.Prelude.{◌≡◌, [], IfOk, length};
 ghost use Rattle.um_base.specs.declared.limits.TheConstants.{ROWS};
@@ -38,7 +40,8 @@ use um_machine::{Cost, Life, Pending};
 use um_samples::empty_image;
 use um_service::Outcome;
 use um_tables::{
-    Bytes, Context, DomainCell, Heap, HeapAct, Here, ObjectCells, Said, Scheduler, Sites, Tables,
+    Bytes, Clock, Context, DomainCell, Heap, HeapAct, Here, Joins, ObjectCells, Said, Scheduler,
+    Sites, Tables,
 };
 use um_words::{DomWord, DomainAct, Permissions, RowAct, RowWord, Stage, ThreadAct, ThreadWord};
 
@@ -100,6 +103,9 @@ fn living(domain: u8) -> ThreadWord
         held: false,
         mode: Mode::User,
         domain,
+        aborted: false,
+        suspended: false,
+        note: None,
         number: 0,
     }
 }
@@ -197,7 +203,7 @@ fn objects(alloc: Global) -> Result<ObjectCells, OutOfMemory>
 fn bytes(alloc: Global) -> Result<Bytes, OutOfMemory> {
     let mut partitions = Vec::new(alloc);
     partitions.resize(64, 0)?;
-    Ok(Bytes::new(partitions, Vec::new(alloc)))
+    Bytes::new(alloc, partitions, Vec::new(alloc))
 }
 
 /// How many events the log of the tables has room for.
@@ -227,6 +233,8 @@ fn tables(alloc: Global) -> Result<Tables, OutOfMemory>
     free.resize(ROWS, true)?;
     let mut costs = Vec::new(alloc);
     costs.resize(ROWS, None)?;
+    let log = Vec::with_capacity(alloc, EVENTS)?;
+    let clock = Clock::new(alloc, log.capacity())?;
     Ok(Tables::new(
         rows,
         threads,
@@ -237,7 +245,9 @@ fn tables(alloc: Global) -> Result<Tables, OutOfMemory>
         bytes(alloc)?,
         Heap::new(pools, free, costs),
         Scheduler::new(alloc)?,
-        Vec::with_capacity(alloc, EVENTS)?,
+        clock,
+        Joins::new(alloc, [false; THREADS])?,
+        log,
     ))
 }
 
@@ -341,6 +351,7 @@ fn waiter(ask: &Ask) -> Waiter
         priority: 0,
         ask: *ask,
         bytes: Piece::new(),
+        until: None,
     }
 }
 
@@ -357,7 +368,7 @@ fn a_cleared_queue_says_its_cost(rt: HostRuntime) -> Result<(), Fail> {
         pool: 1,
     });
     let addr = Addr(0x4000_0000);
-    is_made!(rt, sites.work(here, Row(3), addr, &init, &mut outcome), () => outcome.answer == Answer::Now(Reply::Num(0)));
+    is_made!(rt, sites.work(here, Row(3), addr, &init, 0, &mut outcome), () => outcome.answer == Answer::Now(Reply::Num(0)));
     is_made!(rt, sites.message_size(here, Row(3)), size => size == 3);
     for cost in [Some(Cost { pool: 1, bytes: 8 }), None] {
         is_made!(rt, sites.clear(here, Row(3)), said => said == cost);

@@ -4,6 +4,7 @@ mod dumps;
 mod events;
 mod layouts;
 mod summaries;
+mod timed;
 mod words;
 
 ghost use Rattle.std.specs.Prelude.{IfOk};
@@ -17,12 +18,12 @@ use um_image::read_image;
 use um_samples::described;
 use um_trace::{LINE_ROOM, line_text};
 
-/// Threads `a` and `b` with their stacks of 60 bytes, a semaphore `s`, a domain `d` and a script `m`.
+/// Threads `a` and `b` with their stacks of 60 bytes, a semaphore `s`, a timer `w`, a domain `d` and a script `m`.
 const SMALL: &str = described!(
     "domain = [{name = \"d\"}]
 object = [{name = \"a\", kind = \"thread\"}, {name = \"sa\", kind = \"thread_stack\", size = 60},
  {name = \"b\", kind = \"thread\"}, {name = \"sb\", kind = \"thread_stack\", size = 60},
- {name = \"s\", kind = \"sem\"}]
+ {name = \"s\", kind = \"sem\"}, {name = \"w\", kind = \"timer\"}]
 script = [{name = \"m\", lines = [\"k_oops\"]}]
 "
 );

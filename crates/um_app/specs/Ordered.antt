@@ -8,9 +8,9 @@ use Rattle.um_fine.specs.Erasure.{shown}
 use Rattle.um_fine.specs.Steps.{FineStep}
 use Rattle.um_invariants.specs.InOrder.{IsInOrder}
 
--- The events are those that the steps of the processors show. At each turn the first processor that can make a step makes it, beginning with the
--- preferred one, until none can make another. On one processor each event is by the thread whose turn it is: cleaning comes first, nothing else
--- interrupts an instruction, and ready threads take turns; and the steps are those of every pick.
+-- The events are those that the steps of the processors show. At each turn the first processor that has a chosen step makes it, beginning with
+-- the preferred one, until none can make another. On one processor the events are in order: cleaning comes first, nothing else interrupts an
+-- instruction, ready threads take turns, and time goes on only where none is ready; and the steps are those of every pick.
 pub record IsOrdered (image : Image) (options : Options) (run : List Event) : Type 0 where
   pub steps : List FineStep
   pub picked : IsPickedRun image options.cpus options.pick steps

@@ -25,7 +25,7 @@ use Rattle.um_app.specs.Threaded.{IsThreadRun}
 use Rattle.um_app.specs.Upgraded.{IsUpgrade}
 
 -- One complete run of the access-matrix machine from an image, in the order of its processors. It has at most as many events as the
--- image's weight, and obeys the laws of accesses, verdicts, origins, inheritances, service, lives and holds.
+-- image's weight, and obeys the laws of accesses, verdicts, origins, inheritances, service, lives, holds, deadlines, aborts and futexes.
 -- The image and the options name just one such run (`every_order` of um_core).
 pub record IsRunOf (image : Image) (options : Options) (run : List Event) (last : State) : Type 0 where
   pub described : IsDescribed image

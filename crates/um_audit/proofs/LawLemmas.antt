@@ -1,5 +1,5 @@
 -- A text has one verdict, and it is yes exactly where the text is that of a complete run.
-use Rattle.std.proofs.Common.{◌≡◌, ◌≢◌, ◌⊎◌, inl, inr, ℕ, ◌+◌, ◌<◌, true, List, [], ◌∷◌, length, take, refl, sym, ap, ◌∙◌, subst, arith, Some, slice_get}
+use Rattle.std.proofs.Common.{◌≡◌, ◌≢◌, ◌⊎◌, inl, inr, ℕ, ◌+◌, ◌<◌, true, List, [], ◌∷◌, ◌++◌, length, take, refl, sym, ap, ◌∙◌, subst, arith, Some, slice_get}
 use Rattle.std.specs.Prelude.{◌↔◌}
 use Rattle.std.proofs.lemmas.Bool.{and_parts}
 use Rattle.std.specs.List.{list_all}
@@ -11,6 +11,7 @@ use Rattle.um_base.specs.Lawful.{is_lawful_boot}
 use Rattle.um_machine.specs.State.{State}
 use Rattle.um_machine.specs.Run.{Step, IsComplete, opening}
 use Rattle.um_machine.specs.Table.{act_of}
+use Rattle.um_machine.proofs.RunLemmas.{runs-push}
 use Rattle.um_trace.specs.Dump.{dump}
 use Rattle.um_trace.specs.Acts.{act_text}
 use Rattle.um_invariants.proofs.Cores.{core_of}
@@ -36,7 +37,7 @@ use Rattle.um_audit.proofs.OneLemmas.{IsGood, same_state, to_both}
 -- what is known at the opening, or there is no step at all
 good_booted : (image : Image) → IsDescribed image → (boot : Boot) → is_lawful_boot image boot ≡ true → IsKnown (core_of (opening image)) → IsGood image (opening image)
 good_booted image is boot lawful known =
-    let sound = sound_booted image is.lawful is.few boot lawful in record { sound = sound; named = are_named image is.lawful; kept = kept_opening image sound; known = known }
+    let sound = sound_booted image is.lawful is.few boot lawful in record { sound = sound; named = are_named image is.lawful; kept = kept_opening image sound; known = known; opened = known; events = []; led = refl }
 
 good_or_none : (image : Image) → IsDescribed image → (boots : List Boot) → image.boots ≡ boots → IsGood image (opening image) ⊎ ((event : Event) (s2 : State) → Step (opening image) event s2 → ⊥)
 good_or_none image is [] none = inr (λ e s2 step. idle_opening image e.thread.0 none (offered_acting (opening image) e.thread.0 step.step step.rest step.offered))
@@ -55,6 +56,9 @@ good_step image s good e m step =
       named = good.named;
       kept = kept_made image good.sound s good.kept e.thread.0 e.act m (made_by s e m step);
       known = known_step s m e good.known step;
+      opened = good.opened;
+      events = good.events ++ e ∷ [];
+      led = runs-push (opening image) good.events s e m good.led step;
     }
 
 -- two steps with one line

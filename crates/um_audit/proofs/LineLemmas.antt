@@ -139,6 +139,14 @@ pub line-found : (bytes : List ℕ) (i : ℕ) → i < length bytes → get_or by
 line-found bytes i inside found before =
     let cut = cut-at bytes i inside found before in sym (ap line_of cut.1 ∙ line-ended (take i bytes) (drop (suc i) bytes) cut.0)
 
+-- the line of the piece that is cut off there
+pub line-cut : (bytes : List ℕ) (i : ℕ) → i < length bytes → get_or bytes i 0 ≡ 10 → ((k : ℕ) → k < i → get_or bytes k 0 ≡ 10 → ⊥)
+    → take i bytes ≡ line_of (take (i + 1) bytes)
+line-cut bytes i inside found before =
+    let cut = cut-at bytes i inside found before in
+    let piece : take (suc i) bytes ≡ take i bytes ++ 10 ∷ [] = take-suc bytes i 0 inside ∙ ap (λ (d : ℕ). take i bytes ++ d ∷ []) found in
+    rw add-one (sym (ap line_of piece ∙ line-ended (take i bytes) [] cut.0))
+
 pub line-none : (bytes : List ℕ) → ((k : ℕ) → k < length bytes → get_or bytes k 0 ≡ 10 → ⊥) → bytes ≡ line_of bytes
 line-none bytes none = sym (line-last bytes (none-at bytes none))
 

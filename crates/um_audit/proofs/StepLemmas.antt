@@ -1,159 +1,117 @@
 -- Which line a step says, and what is left where no step says it.
-use Rattle.std.proofs.Common.{◌≡◌, inl, inr, ℕ, ◌<◌, ◌≤◌, Bool, true, false, List, [], ◌∷◌, ◌++◌, length, refl, sym, ap, ◌∙◌, subst, arith, Option, Some, None, slice_get, slice_index_or, if◌then◌else◌}
+use Rattle.std.proofs.Common.{◌≡◌, inl, inr, ℕ, ◌<◌, ◌≤◌, true, false, List, [], ◌∷◌, ◌++◌, length, sym, ap, ◌∙◌, refl, subst, arith, Option, Some, None, slice_get, slice_index_or}
 use Rattle.std.specs.Prelude.{IsTrue, codes}
 use Rattle.std.proofs.Math.ListN.{get_or-eq_default}
-use Rattle.std.proofs.lemmas.Bool.Decides.{Decides-eqb}
-use Rattle.std.proofs.lemmas.Slice.Eq.{starts_is}
-use Rattle.std.proofs.Common.{eqb}
-use Rattle.std.specs.List.{starts_with}
 use Rattle.um_base.specs.declared.act.Act.{Act}
 use Rattle.um_base.specs.declared.act.Event.{Event}
 use Rattle.um_base.specs.declared.image.Image.{Image}
-use Rattle.um_base.specs.declared.instr.Instr.{Instr}
 use Rattle.um_base.specs.declared.limits.TheConstants.{THREADS, ROWS}
 use Rattle.um_base.specs.declared.names.ThreadIx.{ThreadIx}
 use Rattle.um_machine.specs.declared.pending.Pending.{Pending}
-use Rattle.um_machine.specs.State.{State, thread_at, pair_at, is_started, instruction_at}
-use Rattle.um_machine.specs.Table.{act_of, after}
+use Rattle.um_machine.specs.Joins.{is_ending}
+use Rattle.um_machine.specs.Limits.{IsSound}
+use Rattle.um_machine.specs.Order.{to_thread}
 use Rattle.um_machine.specs.Run.{Step}
-use Rattle.um_matrix.specs.Offered.{event_of, first_step, second_step, rest_step, rest_act, rest_choice, after_choice, row_count, chooses, line_act}
-use Rattle.um_matrix.specs.declared.matrix.choice.Choice.{Choice}
-use Rattle.um_matrix.proofs.OfferLemmas.{le-or-lt, chosen-past, plain-chosen, refused-step, past-no-step, nobody-more, rest-says, step-begins, step-exits, rest-conditions, step-first, step-second, step-cleans, step-recycles}
+use Rattle.um_machine.specs.State.{State, thread_at, pair_at, is_started, is_waiting}
+use Rattle.um_machine.specs.Table.{act_of}
+use Rattle.um_matrix.specs.Offered.{after_choice, event_of, first_step, is_tending, rest_act, rest_choice, rest_step, row_count, second_step}
+use Rattle.um_matrix.specs.declared.tables.choice.Choice.{Choice}
+use Rattle.um_matrix.proofs.OfferLemmas.{cut-past, late-past, le-or-lt, nobody-more, past-no-step, refused-step, rest-chosen, rest-not, step-first, step-leaves, step-second, step-tends, still-cut, still-late}
+use Rattle.um_matrix.proofs.OfferLemmas as Offer
+use Rattle.um_matrix.proofs.ReachLemmas.{choice-step}
 use Rattle.um_trace.specs.Names.{thread_text}
 use Rattle.um_trace.specs.Acts.{act_text, event_line}
 use Rattle.um_audit.proofs.LineLemmas.{snoc-same}
-use Rattle.um_audit.specs.Steps.{IsLine, IsStepLine, IsNoStepLine, IsThreadsLine, IsNoThreadsLine, SaysLine, SaysNotLine, MakesLine}
+use Rattle.um_audit.specs.Steps.{IsLine, IsLineChoice, IsStepLine, IsNoStepLine, IsNoThreadsLine, SaysLine, SaysNotLine}
 
--- Rows.
+module _ (image : Image) (line : List ℕ) (s : State) (t : ℕ) where
+  abbrev Says : Act → Type 0
+  Says act = IsLine image line (event_of t act)
 
--- what a step says that chooses no row doesn't depend on one
-plain-says : (s : State) (t x : ℕ) (p : Pending) → chooses p ≡ false → act_of s t x p ≡ act_of s t 0 p
-plain-says s t x (Pending.Inherit who) h = cc
-plain-says s t x (Pending.Drops from) h = cc
-plain-says s t x (Pending.Reserve kind) h = cc
-plain-says s t x (Pending.CleanPair who) h = cc
-plain-says s t x Pending.Recycle h = cc
-plain-says s t x _ h = refl
+  -- where the rows were tried, no other row says the line
+  pub rows-say : (p : Pending) → length s.objects ≡ ROWS → length s.pairs ≡ ROWS → ((x : ℕ) → x < row_count p → SaysLine image line s t p x → ⊥) → SaysNotLine image line s t p
+  rows-say p o w none x m is = Offer.rows-say s t (act_of s t x p) p o w (λ y below may says. none y below (may, subst Says says is)) x m refl
 
-rows_by : (image : Image) (line : List ℕ) (s : State) (t : ℕ) (p : Pending) (b : Bool) → chooses p ≡ b → length s.objects ≡ ROWS → length s.pairs ≡ ROWS
-    → ((x : ℕ) → x < (if b then ROWS else 1) → SaysLine image line s t p x → ⊥) → SaysNotLine image line s t p
-rows_by image line s t p true e o w none x m says = elim (le-or-lt x ROWS) [ inl within ↦ none x within (m, says) | inr past ↦ chosen-past s t x p o w e past m ]
-rows_by image line s t p false e o w none x m says =
-    none 0 (omega arith) (plain-chosen s t x p e m, subst (λ (act : Act). IsLine image line (event_of t act)) (plain-says s t x p e) says)
+  -- What the line tells of.
 
-pub rows-say : (image : Image) (line : List ℕ) (s : State) (t : ℕ) (p : Pending) → length s.objects ≡ ROWS → length s.pairs ≡ ROWS
-    → ((x : ℕ) → x < row_count p → SaysLine image line s t p x → ⊥) → SaysNotLine image line s t p
-rows-say image line s t p o w none = rows_by image line s t p (chooses p) refl o w none
+  pub first-choice : (x : ℕ) (p : Pending) → slice_get (thread_at s t).pending 0 ≡ Some p → IsSound p → x < row_count p → SaysLine image line s t p x → IsLineChoice image line s t (Choice.Makes p x 1)
+  first-choice x p head sound below says = let act = act_of s t x p in (act, says.1, (sound, below, omega arith, step-first s t x act p head says.0 refl))
 
--- The steps that a line makes.
+  pub second-choice : (x : ℕ) (p : Pending) → second_step s t ≡ Some p → IsSound p → x < row_count p → SaysLine image line s t p x → IsLineChoice image line s t (Choice.Makes p x 2)
+  second-choice x p next sound below says = let act = act_of s t x p in (act, says.1, (sound, below, omega arith, step-second s t x act p next says.0 refl))
 
-pub line-first : (image : Image) (line : List ℕ) (s s2 : State) (t : ℕ) (p : Pending) → slice_get (thread_at s t).pending 0 ≡ Some p → MakesLine image line s t p 1 s2 → IsThreadsLine image line t s s2
-line-first image line s s2 t p head (x, says, leaves) =
-    (act_of s t x p, says.1, subst (λ (now : State). Step s (event_of t (act_of s t x p)) now) (sym leaves) (step-first s t x (act_of s t x p) p head says.0 refl))
+  pub rest-line-choice : (act : Act) → slice_get (thread_at s t).pending 0 ≡ None → rest_act s t ≡ Some act → Says act → IsLineChoice image line s t (rest_choice act)
+  rest-line-choice act none says is = (act, is, rest-chosen s t act none says)
 
-pub line-second : (image : Image) (line : List ℕ) (s s2 : State) (t : ℕ) (p : Pending) → second_step s t ≡ Some p → MakesLine image line s t p 2 s2 → IsThreadsLine image line t s s2
-line-second image line s s2 t p next (x, says, leaves) =
-    (act_of s t x p, says.1, subst (λ (now : State). Step s (event_of t (act_of s t x p)) now) (sym leaves) (step-second s t x (act_of s t x p) p next says.0 refl))
+  pub leaves-choice : (x : ℕ) → IsTrue (is_ending (thread_at s t)) → SaysLine image line s t Pending.Left x → IsLineChoice image line s t Choice.Leaves
+  leaves-choice x ending says = let act = act_of s t x Pending.Left in (act, says.1, step-leaves s t x act ending says.0 refl)
 
-pub line-cleans : (image : Image) (line : List ℕ) (s s2 : State) (t x : ℕ) (who : ThreadIx) → IsTrue (is_started (thread_at s t).life) → SaysLine image line s t (Pending.CleanPair who) x → s2 ≡ after s t x (Pending.CleanPair who) []
-    → IsThreadsLine image line t s s2
-line-cleans image line s s2 t x who started says leaves =
-    let act = act_of s t x (Pending.CleanPair who) in
-    (act, says.1, subst (λ (now : State). Step s (event_of t act) now) (sym leaves) (step-cleans s t x act who started says.0 refl))
+  pub tends-choice : (x : ℕ) (p : Pending) → IsTrue (is_tending p) → IsTrue (is_started (thread_at s t).life) → x < row_count p → SaysLine image line s t p x → IsLineChoice image line s t (Choice.Tends p x)
+  tends-choice x p is started below says = let act = act_of s t x p in (act, says.1, (is, below, step-tends s t x act p is started says.0 refl))
 
-pub line-recycles : (image : Image) (line : List ℕ) (s s2 : State) (t x : ℕ) → IsTrue (is_started (thread_at s t).life) → SaysLine image line s t Pending.Recycle x → s2 ≡ after s 0 x Pending.Recycle []
-    → IsThreadsLine image line t s s2
-line-recycles image line s s2 t x started says leaves =
-    let act = act_of s t x Pending.Recycle in (act, says.1, subst (λ (now : State). Step s (event_of t act) now) (sym leaves) (step-recycles s t x act started says.0 refl))
+  -- what was chosen is a step of which the line tells
+  pub made-line : (choice : Choice) (s2 : State) → IsLineChoice image line s t choice → s2 ≡ after_choice s t choice → IsStepLine image line s s2
+  made-line choice s2 (act, is, chosen) leaves =
+      (event_of t act, is, subst (λ (now : State). Step s (event_of t act) now) (sym leaves) (choice-step s t act choice chosen))
 
-pub line-cleans-at : (image : Image) (line : List ℕ) (s0 s s2 : State) (t x : ℕ) (who : ThreadIx) → s ≡ s0 → IsTrue (is_started (thread_at s0 t).life) → SaysLine image line s t (Pending.CleanPair who) x
-    → s2 ≡ after s t x (Pending.CleanPair who) [] → IsThreadsLine image line t s0 s2
-line-cleans-at image line s0 s s2 t x who same started says leaves =
-    subst (λ (now : State). IsThreadsLine image line t now s2) same
-    (line-cleans image line s s2 t x who (subst (λ (now : State). IsTrue (is_started (thread_at now t).life)) (sym same) started) says leaves)
+  -- Where no step says the line.
 
--- what a thread does at rest
-rest_at : (s : State) (t : ℕ) (act : Act) (b : Bool) (o : Option Instr) → instruction_at s.image (thread_at s t).place ≡ o → slice_get (thread_at s t).pending 0 ≡ None → rest_act s t ≡ Some act
-    → rest_choice act ≡ (if b then Choice.Exits else Choice.Begins) → Step s (event_of t act) (after_choice s t (if b then Choice.Exits else Choice.Begins))
-rest_at s t act true None here none says choice = step-exits s t act act none says refl here
-rest_at s t act false (Some instr) here none says choice = step-begins s t act act none says refl (rw here refl)
-rest_at s t act false None here none says choice =
-    let exits : Act.Exit ≡ act = ap (line_act (thread_at s t).place) (sym here) ∙ (rest-conditions s t act says).2 in
-    absurd (let bad : Choice.Exits ≡ Choice.Begins = ap rest_choice exits ∙ choice in cc)
-rest_at s t act true (Some instr) here none says choice =
-    let starts : line_act (thread_at s t).place (Some instr) ≡ act = ap (line_act (thread_at s t).place) (sym here) ∙ (rest-conditions s t act says).2 in
-    absurd (let bad : Choice.Begins ≡ Choice.Exits = ap rest_choice starts ∙ choice in cc)
+  -- a thread at rest says one thing
+  pub rest-line : (act : Act) → rest_act s t ≡ Some act → (Says act → ⊥) → (p : Pending) → rest_step s t ≡ Some p → SaysNotLine image line s t p
+  rest-line act says not p e x m is =
+      rest-not s t (act_of s t x p) (λ here. let one : act_of s t x p ≡ act = (let both : Some (act_of s t x p) ≡ Some act = sym here ∙ says in cc) in not (subst Says one is)) p e x m refl
 
-rest_made : (s : State) (t : ℕ) (act : Act) (b : Bool) → slice_get (thread_at s t).pending 0 ≡ None → rest_act s t ≡ Some act → rest_choice act ≡ (if b then Choice.Exits else Choice.Begins)
-    → Step s (event_of t act) (after_choice s t (if b then Choice.Exits else Choice.Begins))
-rest_made s t act b none says choice = rest_at s t act b (instruction_at s.image (thread_at s t).place) refl none says choice
+  pub rest-nothing : rest_act s t ≡ None → (p : Pending) → rest_step s t ≡ Some p → SaysNotLine image line s t p
+  rest-nothing none p e x m is = rest-not s t (act_of s t x p) (λ here. let bad : None ≡ Some (act_of s t x p) = sym none ∙ here in cc) p e x m refl
 
-pub line-exits : (image : Image) (line : List ℕ) (s s2 : State) (t : ℕ) (act : Act) → slice_get (thread_at s t).pending 0 ≡ None → rest_act s t ≡ Some act → rest_choice act ≡ Choice.Exits → IsLine image line (event_of t act)
-    → s2 ≡ after s t 0 Pending.Exit [] → IsThreadsLine image line t s s2
-line-exits image line s s2 t act none says choice is leaves =
-    (act, is, subst (λ (now : State). Step s (event_of t act) now) (sym leaves) (rest_made s t act true none says choice))
+  -- one step is the only one
+  pub only-says : (o : Option Pending) (q : Pending) → o ≡ Some q → SaysNotLine image line s t q → (p : Pending) → o ≡ Some p → SaysNotLine image line s t p
+  only-says o q e none p f = let same : q ≡ p = (let both : Some q ≡ Some p = sym e ∙ f in cc) in subst (λ (r : Pending). SaysNotLine image line s t r) same none
 
-pub line-begins-rest : (image : Image) (line : List ℕ) (s s2 : State) (t : ℕ) (act : Act) → slice_get (thread_at s t).pending 0 ≡ None → rest_act s t ≡ Some act → rest_choice act ≡ Choice.Begins → IsLine image line (event_of t act)
-    → s2 ≡ after s t 0 Pending.Begin [] → IsThreadsLine image line t s s2
-line-begins-rest image line s s2 t act none says choice is leaves =
-    (act, is, subst (λ (now : State). Step s (event_of t act) now) (sym leaves) (rest_made s t act false none says choice))
+  -- a wait ends only of one who waits
+  pub no-late : (who : ThreadIx) → is_waiting (thread_at s who.0) ≡ false → SaysNotLine image line s t (Pending.TimeOut who)
+  no-late who still x m is = still-late s t who still x m
 
--- the choice of an act at rest, by a test
-pub choice-exits : (b : Bool) (c : Choice) → c ≡ (if b then Choice.Exits else Choice.Begins) → b ≡ true → c ≡ Choice.Exits
-choice-exits true c h e = h
-choice-exits false c h e = cc
+  pub no-cut : (who : ThreadIx) → is_waiting (thread_at s who.0) ≡ false → SaysNotLine image line s t (Pending.Cut who)
+  no-cut who still x m is = still-cut s t who still x m
 
-pub choice-begins : (b : Bool) (c : Choice) → c ≡ (if b then Choice.Exits else Choice.Begins) → b ≡ false → c ≡ Choice.Begins
-choice-begins true c h e = cc
-choice-begins false c h e = h
+  -- nobody past the thread indices waits, or has a pair
+  pub all-late : length s.threads ≡ THREADS → ((w : ℕ) → w < THREADS → SaysNotLine image line s t (Pending.TimeOut (to_thread w))) → (who : ThreadIx) → SaysNotLine image line s t (Pending.TimeOut who)
+  all-late whole none who x m is = elim (le-or-lt who.0 THREADS) [ inl within ↦ none who.0 within x m is | inr past ↦ late-past s t x who whole past m ]
 
--- Where no step says a line.
+  pub all-cut : length s.threads ≡ THREADS → ((w : ℕ) → w < THREADS → SaysNotLine image line s t (Pending.Cut (to_thread w))) → (who : ThreadIx) → SaysNotLine image line s t (Pending.Cut who)
+  all-cut whole none who x m is = elim (le-or-lt who.0 THREADS) [ inl within ↦ none who.0 within x m is | inr past ↦ cut-past s t x who whole past m ]
 
-pub none-says : (image : Image) (line : List ℕ) (s : State) (t : ℕ) → ((p : Pending) → first_step s t ≡ Some p → SaysNotLine image line s t p) → ((p : Pending) → second_step s t ≡ Some p → SaysNotLine image line s t p)
-    → (IsTrue (is_started (thread_at s t).life) → (who : ThreadIx) → SaysNotLine image line s t (Pending.CleanPair who)) → (IsTrue (is_started (thread_at s t).life) → SaysNotLine image line s t Pending.Recycle)
-    → IsNoThreadsLine image line t s
-none-says image line s t first second pairs objects act s2 is step =
-    refused-step s (event_of t act) (λ p e x m says. first p e x m (moved says)) (λ p e x m says. second p e x m (moved says)) (λ l who x m says. pairs l who x m (moved says)) (λ l x m says. objects l x m (moved says)) s2 step
-  where
-    moved : {a : Act} → act ≡ a → IsLine image line (event_of t a)
-    moved {a} says = subst (λ (b : Act). IsLine image line (event_of t b)) says is
+  pub pair-past : (x : ℕ) (who : ThreadIx) → length (slice_index_or s.pairs x []) ≤ who.0 → SaysLine image line s t (Pending.CleanPair who) x → ⊥
+  pair-past x who past says = nobody-more s t x who past says.0
 
--- who is no thread has no pair
-pub pair-past : (image : Image) (line : List ℕ) (s : State) (t x : ℕ) (who : ThreadIx) → length (slice_index_or s.pairs x []) ≤ who.0 → SaysLine image line s t (Pending.CleanPair who) x → ⊥
-pair-past image line s t x who past says = nobody-more s t x who past says.0
+  -- no row past the tables has a pair
+  row-past : (u x : ℕ) → length s.pairs ≡ ROWS → ROWS ≤ x → pair_at s u x ≡ true → ⊥
+  row-past u x whole past h = let none : pair_at s u x ≡ false = rw (get_or-eq_default s.pairs [] {n = x} (omega arith)) refl in cc
 
--- no row past the tables has one
-row_past : (s : State) (t x : ℕ) → length s.pairs ≡ ROWS → ROWS ≤ x → pair_at s t x ≡ true → ⊥
-row_past s t x whole past h = let none : pair_at s t x ≡ false = rw (get_or-eq_default s.pairs [] {n = x} (omega arith)) refl in cc
+  pub pairs-said : (n : ℕ) → ROWS ≤ n → length s.pairs ≡ ROWS → ((x : ℕ) → x < n → (who : ThreadIx) → SaysLine image line s t (Pending.CleanPair who) x → ⊥)
+      → (who : ThreadIx) → SaysNotLine image line s t (Pending.CleanPair who)
+  pairs-said n all w none who x m says = elim (le-or-lt x ROWS) [ inl within ↦ none x (omega (arith, within, all)) who (m, says) | inr past ↦ row-past who.0 x w past m.1 ]
 
-pub pairs-said : (image : Image) (line : List ℕ) (s : State) (t n : ℕ) → ROWS ≤ n → length s.pairs ≡ ROWS
-    → ((x : ℕ) → x < n → (who : ThreadIx) → SaysLine image line s t (Pending.CleanPair who) x → ⊥) → (who : ThreadIx) → SaysNotLine image line s t (Pending.CleanPair who)
-pairs-said image line s t n all w none who x m says =
-    elim (le-or-lt x ROWS) [ inl within ↦ none x (omega (arith, within, all)) who (m, says) | inr past ↦ row_past s who.0 x w past m.1 ]
+  -- the steps that tend
+  pub none-tends : ((who : ThreadIx) → SaysNotLine image line s t (Pending.CleanPair who)) → SaysNotLine image line s t Pending.Recycle → ((who : ThreadIx) → SaysNotLine image line s t (Pending.TimeOut who))
+      → ((who : ThreadIx) → SaysNotLine image line s t (Pending.Cut who)) → SaysNotLine image line s t Pending.Tick → SaysNotLine image line s t Pending.Expire
+      → (p : Pending) → IsTrue (is_tending p) → SaysNotLine image line s t p
+  none-tends pairs objects times cuts ticks timers (Pending.CleanPair who) h = pairs who
+  none-tends pairs objects times cuts ticks timers Pending.Recycle h = objects
+  none-tends pairs objects times cuts ticks timers (Pending.TimeOut who) h = times who
+  none-tends pairs objects times cuts ticks timers (Pending.Cut who) h = cuts who
+  none-tends pairs objects times cuts ticks timers Pending.Tick h = ticks
+  none-tends pairs objects times cuts ticks timers Pending.Expire h = timers
+  none-tends pairs objects times cuts ticks timers _ h = cc
 
--- the same, where the state is that of calls that changed nothing
-pub none-of : (image : Image) (line : List ℕ) (s s1 s2 : State) (t : ℕ) → s1 ≡ s → s2 ≡ s1 → ((p : Pending) → first_step s t ≡ Some p → SaysNotLine image line s t p) → ((p : Pending) → second_step s1 t ≡ Some p → SaysNotLine image line s1 t p)
-    → (IsTrue (is_started (thread_at s2 t).life) → (who : ThreadIx) → SaysNotLine image line s2 t (Pending.CleanPair who)) → (IsTrue (is_started (thread_at s2 t).life) → SaysNotLine image line s2 t Pending.Recycle)
-    → IsNoThreadsLine image line t s
-none-of image line s s1 s2 t e f first second pairs objects =
-    none-says image line s t first (subst (λ (now : State). (p : Pending) → second_step now t ≡ Some p → SaysNotLine image line now t p) e second)
-    (subst (λ (now : State). IsTrue (is_started (thread_at now t).life) → (who : ThreadIx) → SaysNotLine image line now t (Pending.CleanPair who)) (f ∙ e) pairs)
-    (subst (λ (now : State). IsTrue (is_started (thread_at now t).life) → SaysNotLine image line now t Pending.Recycle) (f ∙ e) objects)
-
-pub line-moved : (image : Image) (line : List ℕ) (s s1 s2 : State) (t : ℕ) → s1 ≡ s → IsThreadsLine image line t s1 s2 → IsThreadsLine image line t s s2
-line-moved image line s s1 s2 t e made = subst (λ (now : State). IsThreadsLine image line t now s2) e made
-
-pub none-moved : (image : Image) (line : List ℕ) (s s1 : State) (t : ℕ) → s1 ≡ s → IsNoThreadsLine image line t s1 → IsNoThreadsLine image line t s
-none-moved image line s s1 t e none = subst (λ (now : State). IsNoThreadsLine image line t now) e none
-
--- a thread at rest says one thing
-pub rest-line : (image : Image) (line : List ℕ) (s : State) (t : ℕ) (act : Act) → rest_act s t ≡ Some act → (IsLine image line (event_of t act) → ⊥) → (p : Pending) → rest_step s t ≡ Some p → SaysNotLine image line s t p
-rest-line image line s t act says not p e x m is =
-    let same : Some act ≡ Some (act_of s t x p) = sym says ∙ rest-says s t x p e in
-    let one : act ≡ act_of s t x p = cc in not (subst (λ (a : Act). IsLine image line (event_of t a)) (sym one) is)
-
-pub rest-nothing : (image : Image) (line : List ℕ) (s : State) (t : ℕ) → rest_act s t ≡ None → (p : Pending) → rest_step s t ≡ Some p → SaysNotLine image line s t p
-rest-nothing image line s t none p e x m is = absurd (let bad : None ≡ Some (act_of s t x p) = sym none ∙ rest-says s t x p e in cc)
+  -- no step says it
+  pub none-says : ((p : Pending) → first_step s t ≡ Some p → SaysNotLine image line s t p) → ((p : Pending) → second_step s t ≡ Some p → SaysNotLine image line s t p)
+      → (IsTrue (is_ending (thread_at s t)) → SaysNotLine image line s t Pending.Left)
+      → (IsTrue (is_started (thread_at s t).life) → (p : Pending) → IsTrue (is_tending p) → SaysNotLine image line s t p) → IsNoThreadsLine image line t s
+  none-says first second left tending act s2 is step =
+      refused-step s (event_of t act) (λ p e x m says. first p e x m (subst Says says is)) (λ p e x m says. second p e x m (subst Says says is))
+      (λ h x m says. left h x m (subst Says says is)) (λ l p h x m says. tending l p h x m (subst Says says is)) s2 step
 
 -- Whose line it is.
 
@@ -165,10 +123,11 @@ unfolding event_line
 line-begins image line event is = begins_with (thread_text image event.thread.0) (act_text image event.act) line is
 
 -- a line that doesn't begin as a thread's lines do is none of its lines
-pub others-line : (image : Image) (line beginning : List ℕ) (s : State) (t : ℕ) (r : Bool) → beginning ≡ thread_text image t ++ codes " " → r ≡ starts_with eqb line beginning → r ≡ false → IsNoThreadsLine image line t s
-others-line image line beginning s t r name tells apart act s2 is step =
+pub others-line : (image : Image) (line beginning : List ℕ) (s : State) (t : ℕ) → beginning ≡ thread_text image t ++ codes " "
+    → ((more : List ℕ) → line ≡ beginning ++ more → ⊥) → IsNoThreadsLine image line t s
+others-line image line beginning s t name apart act s2 is step =
     let cut = line-begins image line (event_of t act) is in
-    let yes_it_does : r ≡ true = (starts_is Decides-eqb line beginning r tells).1 cut.0 (cut.1 ∙ ap (λ (front : List ℕ). front ++ cut.0) (sym name)) in cc
+    apart cut.0 (cut.1 ∙ ap (λ (front : List ℕ). front ++ cut.0) (sym name))
 
 -- no thread has a line that none below a number has
 pub none-below : (image : Image) (line : List ℕ) (s : State) (n : ℕ) → length s.threads ≡ THREADS → THREADS ≤ n → ((t : ℕ) → t < n → IsNoThreadsLine image line t s) → IsNoStepLine image line s
@@ -177,6 +136,3 @@ none-below image line s n whole all none event s2 is step =
       | inl within ↦ none event.thread.0 (omega (arith, within, all)) event.act s2 is step
       | inr past ↦ past-no-step s event whole past s2 step
     ]
-
-pub line-of-thread : (image : Image) (line : List ℕ) (t : ℕ) (s s2 : State) → IsThreadsLine image line t s s2 → IsStepLine image line s s2
-line-of-thread image line t s s2 (act, is, step) = (event_of t act, is, step)

@@ -1,5 +1,5 @@
 -- The lines of a text that is to be audited.
-use Rattle.std.specs.Prelude.{ℕ, Bool, ◌==◌, if◌then◌else◌, List, [], ◌∷◌, bytes_eq, codes}
+use Rattle.std.specs.Prelude.{◌≡◌, ℕ, Bool, ◌==◌, if◌then◌else◌, List, [], ◌∷◌, bytes_eq, codes}
 
 -- a byte put in front of the first of some pieces
 abbrev pub led : ℕ → List (List ℕ) → List (List ℕ)
@@ -16,6 +16,12 @@ pieces (b ∷ bytes) = if b == 10 then (b ∷ []) ∷ pieces bytes else led b (p
 unfoldable pub line_of : List ℕ → List ℕ
 line_of [] = []
 line_of (b ∷ bytes) = if b == 10 then [] else b ∷ line_of bytes
+
+-- this is the line of the first piece of a text, and that follows the piece
+pub record IsFirstLine (text line behind : List ℕ) : Type 0 where
+  pub piece : List ℕ
+  pub first : pieces text ≡ piece ∷ pieces behind
+  pub is : line ≡ line_of piece
 
 -- whether a piece is the line with which a dump begins
 abbrev pub is_dump : List ℕ → Bool

@@ -1,13 +1,14 @@
 -- Lines of steps.
-use Rattle.std.specs.Prelude.{◌≡◌, ℕ, List, [], ◌∷◌, ◌++◌, drop}
+use Rattle.std.specs.Prelude.{◌≡◌, ℕ, List, [], ◌∷◌, ◌++◌}
 use Rattle.um_base.specs.declared.act.Act.{Act}
 use Rattle.um_base.specs.declared.act.Event.{Event}
 use Rattle.um_base.specs.declared.image.Image.{Image}
 use Rattle.um_machine.specs.declared.pending.Pending.{Pending}
-use Rattle.um_machine.specs.State.{State, thread_at}
-use Rattle.um_machine.specs.Table.{act_of, after}
+use Rattle.um_machine.specs.State.{State}
+use Rattle.um_machine.specs.Table.{act_of}
 use Rattle.um_machine.specs.Run.{MayChoose, Step}
-use Rattle.um_matrix.specs.Offered.{event_of}
+use Rattle.um_matrix.specs.Offered.{IsChoice, event_of}
+use Rattle.um_matrix.specs.declared.tables.choice.Choice.{Choice}
 use Rattle.um_trace.specs.Acts.{event_line}
 use Rattle.um_audit.specs.Lines.{line_of}
 
@@ -28,10 +29,7 @@ abbrev pub AreStepLines : Image → State → List (List ℕ) → State → Type
 AreStepLines image s [] s2 = s2 ≡ s
 AreStepLines image s (piece ∷ more) s2 = (mid : State) × IsStepLine image (line_of piece) s mid × AreStepLines image mid more s2
 
--- the same of one thread
-abbrev pub IsThreadsLine : Image → List ℕ → ℕ → State → State → Type 0
-IsThreadsLine image line t s s2 = (act : Act) × IsLine image line (event_of t act) × Step s (event_of t act) s2
-
+-- the line is that of no step of one thread
 abbrev pub IsNoThreadsLine : Image → List ℕ → ℕ → State → Type 0
 IsNoThreadsLine image line t s = (act : Act) (s2 : State) → IsLine image line (event_of t act) → Step s (event_of t act) s2 → ⊥
 
@@ -42,6 +40,6 @@ SaysLine image line s t step x = MayChoose s t x step × IsLine image line (even
 abbrev pub SaysNotLine : Image → List ℕ → State → ℕ → Pending → Type 0
 SaysNotLine image line s t step = (x : ℕ) → MayChoose s t x step → IsLine image line (event_of t (act_of s t x step)) → ⊥
 
--- a step says the line and leads to s2, and `taken` of the thread's pending steps are over then
-abbrev pub MakesLine : Image → List ℕ → State → ℕ → Pending → ℕ → State → Type 0
-MakesLine image line s t step taken s2 = (x : ℕ) × SaysLine image line s t step x × (s2 ≡ after s t x step (drop taken (thread_at s t).pending))
+-- a thread makes a choice of which the line tells
+abbrev pub IsLineChoice : Image → List ℕ → State → ℕ → Choice → Type 0
+IsLineChoice image line s t choice = (act : Act) × IsLine image line (event_of t act) × IsChoice s t act choice

@@ -11,7 +11,7 @@ ghost use Rattle.um_audit.specs.{
 
 use crate::dump::first_difference;
 use crate::names::beginnings;
-use crate::pieces::{first_piece, is_dump, line_of};
+use crate::pieces::{first_line, is_dump};
 use crate::steps::takes_line;
 use crate::verdict::Verdict;
 use std::alloc::Global;
@@ -43,8 +43,7 @@ fn follow<'t>(
     let mut rest = text;
     let mut lines = 0;
     while !rest.is_empty() {
-        let (piece, behind) = first_piece(rest);
-        let line = line_of(piece);
+        let (line, behind) = first_line(rest);
         if is_dump(line) {
             return Stop::Dump { lines, rest };
         }
@@ -67,7 +66,7 @@ fn ended(matrix: &Matrix, image: &Image, lines: usize, rest: &[u8], room: &mut V
     if !matrix.is_final() {
         return Verdict::NotComplete;
     }
-    dump_text(image, matrix, room);
+    dump_text(image, matrix.tables(), room);
     match first_difference(rest, room) {
         None => Verdict::Yes,
         Some(more) => Verdict::NoDump {

@@ -8,6 +8,7 @@ mod names;
 mod parts;
 mod pieces;
 mod steps;
+mod tending;
 mod verdict;
 
 pub use auditing::audit;

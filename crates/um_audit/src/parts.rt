@@ -3,7 +3,7 @@
 ghost use Rattle.std.specs.Prelude.{◌≡◌, ◌≤◌, IfSome, IfNone, Some, None, List, ℕ, length};
 ghost use Rattle.um_audit.specs.{Lines.{line_of}, Parts.{is_between, description_part, trace_part}};
 
-use crate::pieces::{first_piece, line_of};
+use crate::pieces::first_line;
 
 /// The parts of an input, which its first line `=====` divides.
 #[derive(Clone, Copy)]
@@ -30,8 +30,8 @@ pub fn parts_of(input: &[u8]) -> Parts<'_>
 {
     let mut rest = input;
     while !rest.is_empty() {
-        let (piece, behind) = first_piece(rest);
-        if is_between(line_of(piece)) {
+        let (line, behind) = first_line(rest);
+        if is_between(line) {
             return Parts {
                 description: &input[..input.len() - rest.len()],
                 trace: Some(behind),

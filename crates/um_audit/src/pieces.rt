@@ -1,7 +1,7 @@
 //! The pieces of a text, and their lines.
 
 ghost use Rattle.std.specs.Prelude.{◌≡◌, ◌≢◌, ◌<◌, ◌∷◌, length, ℕ, List, IfSome, IfNone, slice_index};
-ghost use Rattle.um_audit.specs.Lines.{pieces, line_of, is_dump};
+ghost use Rattle.um_audit.specs.Lines.{IsFirstLine, pieces, line_of, is_dump};
 
 /// Where the first newline stands.
 fn newline(text: &[u8]) -> Option<usize>
@@ -30,13 +30,15 @@ pub fn first_piece(text: &[u8]) -> (&[u8], &[u8])
     }
 }
 
-/// A piece without its newline.
-pub fn line_of(piece: &[u8]) -> &[u8]
-    ensures { result.now ≡ line_of piece.now }
+/// The line of that piece, and what follows the piece.
+pub fn first_line(text: &[u8]) -> (&[u8], &[u8])
+    requires { 0 < length text.now }
+    ensures line { IsFirstLine text.now result.0.now result.1.now }
+    ensures shorter { length result.1.now < length text.now }
 {
-    match newline(piece) {
-        Some(i) => &piece[..i],
-        None => piece,
+    match newline(text) {
+        Some(i) => (&text[..i], text.split_at(i + 1).1),
+        None => (text, &[]),
     }
 }
 

@@ -1,112 +1,42 @@
 //! Which line is that of a step. A line is compared with the lines of the steps that its thread may make, and the step whose line is the
 //! same is made.
 
-ghost use Rattle.std.specs.Prelude.{◌≡◌, ◌<◌, ◌≤◌, ◌∷◌, ◌++◌, ◌↔◌, [], IfSome, IfNone, IsTrue, Some, None, false, true, if◌then◌else◌, length, slice_get, slice_index_or, vec_capacity, codes};
-ghost use Rattle.um_trace.specs.Names.{thread_text};
-ghost use Rattle.um_base.specs.declared.names.ThreadIx.{ThreadIx};
+ghost use Rattle.std.specs.Prelude.{◌≡◌, ◌<◌, ◌≤◌, ◌++◌, ℕ, List, IfSome, IfNone, Some, None, false, true, slice_get, vec_capacity};
 ghost use Rattle.um_machine.specs.{
-  Limits.{IsSound},
-  State.{thread_at, is_started},
+  State.{thread_at},
   declared.pending.Pending.{Pending},
 };
-ghost use Rattle.um_matrix.specs.Offered.{first_step, second_step, rest_step, rest_choice, event_of};
-ghost use Rattle.um_matrix.specs.declared.matrix.choice.Choice.TheVariants as Choice;
+ghost use Rattle.um_matrix.specs.Offered.{first_step, second_step, rest_step};
 ghost use Rattle.um_audit.specs.{
   Beginnings.{AreBeginnings},
-  Steps.{IsLine, IsStepLine, IsNoStepLine, IsThreadsLine, IsNoThreadsLine, MakesLine, SaysLine, SaysNotLine},
+  Steps.{IsLineChoice, IsStepLine, IsNoStepLine, IsNoThreadsLine, SaysNotLine},
 };
 
-use crate::lines::holds_line;
-use um_base::{Act, Event, Image, ROWS, THREADS, ThreadIx};
+use crate::lines::{is_line, row_for};
+use crate::tending::by_other;
+use um_base::{Event, Image, THREADS, ThreadIx};
 use um_machine::Pending;
-use um_matrix::Matrix;
-use um_trace::{LINE_ROOM, line_text};
+use um_matrix::{Choice, Matrix, Tables};
+use um_trace::LINE_ROOM;
 
-/// Whether a line is that of an event.
-fn is_line(image: &Image, event: &Event, line: &[u8], room: &mut Vec<u8>) -> bool
-    requires { LINE_ROOM ≤ vec_capacity room.old }
-    ensures is { IsTrue result ↔ IsLine image.now line.now event.now }
-    ensures capacity { vec_capacity room.old ≤ vec_capacity room.new }
-{
-    line_text(image, event, room);
-    holds_line(room, line)
-}
-
-/// Whether a step of a thread says a line, with a row that it may choose.
-fn says_line(
-    matrix: &Matrix,
+/// What a thread at rest does next, if the line says that.
+fn at_rest(
+    tables: &Tables,
     image: &Image,
     t: usize,
-    x: usize,
-    step: &Pending,
     line: &[u8],
     room: &mut Vec<u8>,
-) -> bool
+) -> Option<Choice>
     requires thread { t < THREADS }
-    requires row { x < ROWS }
-    requires sound { IsSound step.now }
+    requires rest { slice_get (thread_at tables.now t).pending 0 ≡ None }
     requires room { LINE_ROOM ≤ vec_capacity room.old }
-    ensures says { IsTrue result ↔ SaysLine image.now line.now matrix.now t step.now x }
+    ensures some { IfSome result (λ choice. IsLineChoice image.now line.now tables.now t choice) }
+    ensures none { IfNone result
+        ((step : Pending) → rest_step tables.now t ≡ Some step → SaysNotLine image.now line.now tables.now t step) }
     ensures capacity { vec_capacity room.old ≤ vec_capacity room.new }
 {
-    if !matrix.may_choose(t, x, step) {
-        return false;
-    }
-    let event = Event {
-        thread: ThreadIx(t as u8),
-        act: matrix.says(t, x, step),
-    };
-    is_line(image, &event, line, room)
-}
-
-/// The row with which a step says a line.
-fn row_for(
-    matrix: &Matrix,
-    image: &Image,
-    t: usize,
-    step: &Pending,
-    line: &[u8],
-    room: &mut Vec<u8>,
-) -> Option<usize>
-    requires thread { t < THREADS }
-    requires sound { IsSound step.now }
-    requires room { LINE_ROOM ≤ vec_capacity room.old }
-    ensures inside { IfSome result (λ x. x < ROWS) }
-    ensures found { IfSome result (λ x. SaysLine image.now line.now matrix.now t step.now x) }
-    ensures none { IfNone result (SaysNotLine image.now line.now matrix.now t step.now) }
-    ensures capacity { vec_capacity room.old ≤ vec_capacity room.new }
-{
-    for x in 0..matrix.row_count(step) {
-        if says_line(matrix, image, t, x, step, line, room) {
-            return Some(x);
-        }
-    }
-    None
-}
-
-/// Whether an act is a thread's exit.
-fn is_exit(act: &Act) -> bool
-    ensures { rest_choice act.now ≡ (if result then Choice.Exits else Choice.Begins) }
-{
-    match act {
-        Act::Exit => true,
-        _ => false,
-    }
-}
-
-/// Makes what a thread at rest does next, if the line says that.
-fn at_rest(matrix: &mut Matrix, image: &Image, t: usize, line: &[u8], room: &mut Vec<u8>) -> bool
-    requires thread { t < THREADS }
-    requires rest { slice_get (thread_at matrix.old t).pending 0 ≡ None }
-    requires room { LINE_ROOM ≤ vec_capacity room.old }
-    ensures yes { result ≡ true → IsThreadsLine image.now line.now t matrix.old matrix.new }
-    ensures none { result ≡ false → (step : Pending) → rest_step matrix.old t ≡ Some step
-        → SaysNotLine image.now line.now matrix.old t step }
-    ensures same { result ≡ false → matrix.new ≡ matrix.old }
-    ensures capacity { vec_capacity room.old ≤ vec_capacity room.new }
-{
-    let act = match matrix.rest_act(t) {
-        None => return false,
+    let act = match tables.rest_act(t) {
+        None => return None,
         Some(act) => act,
     };
     let event = Event {
@@ -114,220 +44,153 @@ fn at_rest(matrix: &mut Matrix, image: &Image, t: usize, line: &[u8], room: &mut
         act,
     };
     if !is_line(image, &event, line, room) {
+        return None;
+    }
+    Some(Choice::at_rest(&event.act))
+}
+
+/// A thread's next step, if the line says that.
+fn by_first(
+    tables: &Tables,
+    image: &Image,
+    t: usize,
+    line: &[u8],
+    room: &mut Vec<u8>,
+) -> Option<Choice>
+    requires thread { t < THREADS }
+    requires room { LINE_ROOM ≤ vec_capacity room.old }
+    ensures some { IfSome result (λ choice. IsLineChoice image.now line.now tables.now t choice) }
+    ensures none { IfNone result
+        ((step : Pending) → first_step tables.now t ≡ Some step → SaysNotLine image.now line.now tables.now t step) }
+    ensures capacity { vec_capacity room.old ≤ vec_capacity room.new }
+{
+    match tables.next_step(t) {
+        None => at_rest(tables, image, t, line, room),
+        Some(step) => match row_for(tables, image, t, &step, line, room) {
+            None => None,
+            Some(row) => Some(Choice::Makes {
+                step,
+                row,
+                taken: 1,
+            }),
+        },
+    }
+}
+
+/// The step after one that may be left out, if the line says that.
+fn by_second(
+    tables: &Tables,
+    image: &Image,
+    t: usize,
+    line: &[u8],
+    room: &mut Vec<u8>,
+) -> Option<Choice>
+    requires thread { t < THREADS }
+    requires room { LINE_ROOM ≤ vec_capacity room.old }
+    ensures some { IfSome result (λ choice. IsLineChoice image.now line.now tables.now t choice) }
+    ensures none { IfNone result
+        ((step : Pending) → second_step tables.now t ≡ Some step → SaysNotLine image.now line.now tables.now t step) }
+    ensures capacity { vec_capacity room.old ≤ vec_capacity room.new }
+{
+    match tables.second_step(t) {
+        None => None,
+        Some(step) => match row_for(tables, image, t, &step, line, room) {
+            None => None,
+            Some(row) => Some(Choice::Makes {
+                step,
+                row,
+                taken: 2,
+            }),
+        },
+    }
+}
+
+/// One of a thread's own steps, if the line says that.
+fn by_steps(
+    tables: &Tables,
+    image: &Image,
+    t: usize,
+    line: &[u8],
+    room: &mut Vec<u8>,
+) -> Option<Choice>
+    requires thread { t < THREADS }
+    requires room { LINE_ROOM ≤ vec_capacity room.old }
+    ensures some { IfSome result (λ choice. IsLineChoice image.now line.now tables.now t choice) }
+    ensures first { IfNone result
+        ((step : Pending) → first_step tables.now t ≡ Some step → SaysNotLine image.now line.now tables.now t step) }
+    ensures second { IfNone result
+        ((step : Pending) → second_step tables.now t ≡ Some step → SaysNotLine image.now line.now tables.now t step) }
+    ensures capacity { vec_capacity room.old ≤ vec_capacity room.new }
+{
+    match by_first(tables, image, t, line, room) {
+        Some(choice) => Some(choice),
+        None => by_second(tables, image, t, line, room),
+    }
+}
+
+/// A step of a thread, if the line is that of one.
+fn by_thread(
+    tables: &Tables,
+    image: &Image,
+    t: usize,
+    line: &[u8],
+    room: &mut Vec<u8>,
+) -> Option<Choice>
+    requires thread { t < THREADS }
+    requires room { LINE_ROOM ≤ vec_capacity room.old }
+    ensures some { IfSome result (λ choice. IsLineChoice image.now line.now tables.now t choice) }
+    ensures none { IfNone result (IsNoThreadsLine image.now line.now t tables.now) }
+    ensures capacity { vec_capacity room.old ≤ vec_capacity room.new }
+{
+    match by_steps(tables, image, t, line, room) {
+        Some(choice) => Some(choice),
+        None => match by_other(tables, image, t, line, room) {
+            Some(choice) => Some(choice),
+            None => None,
+        },
+    }
+}
+
+/// Whether a line begins with these bytes. The lines of most threads differ in the byte before the space, which is looked at first.
+fn begins(line: &[u8], beginning: &[u8]) -> bool
+    ensures { result ≡ false → (more : List ℕ) → line.now ≡ beginning.now ++ more → ⊥ }
+{
+    let place = beginning.len().saturating_sub(2);
+    if place < beginning.len() && place < line.len() && line[place] != beginning[place] {
         return false;
     }
-    if is_exit(&event.act) {
-        matrix.exit(t);
-    } else {
-        matrix.begin(t);
-    }
-    true
+    line.starts_with(beginning)
 }
 
-/// Makes a pending step of a thread, if the line is what it says. `taken` steps are over then, which counts one that is left out before it.
-fn by_step(
-    matrix: &mut Matrix,
+/// A thread and a step of it, if the line is that of one. The line begins with the thread's object.
+fn choice_of(
+    tables: &Tables,
     image: &Image,
-    t: usize,
-    step: &Pending,
-    taken: usize,
+    names: &[Vec<u8>],
     line: &[u8],
     room: &mut Vec<u8>,
-) -> bool
-    requires thread { t < THREADS }
-    requires sound { IsSound step.now }
-    requires taken { 0 < taken }
+) -> Option<(usize, Choice)>
+    requires names { AreBeginnings image.now names.now }
     requires room { LINE_ROOM ≤ vec_capacity room.old }
-    ensures yes { result ≡ true → MakesLine image.now line.now matrix.old t step.now taken matrix.new }
-    ensures none { result ≡ false → SaysNotLine image.now line.now matrix.old t step.now }
-    ensures same { result ≡ false → matrix.new ≡ matrix.old }
+    ensures thread { IfSome result (λ found. found.0 < THREADS) }
+    ensures some { IfSome result (λ found. IsLineChoice image.now line.now tables.now found.0 found.1) }
+    ensures none { IfNone result (IsNoStepLine image.now line.now tables.now) }
     ensures capacity { vec_capacity room.old ≤ vec_capacity room.new }
 {
-    match row_for(matrix, image, t, step, line, room) {
-        Some(x) => {
-            matrix.make(t, x, step, taken);
-            true
+    let _threads = tables.threads().len();
+    for (t, name) in names.iter().enumerate() {
+        if !begins(line, name.as_slice()) {
+            continue;
         }
-        None => false,
-    }
-}
-
-/// Makes a thread's next step, if the line says that.
-fn by_first(matrix: &mut Matrix, image: &Image, t: usize, line: &[u8], room: &mut Vec<u8>) -> bool
-    requires thread { t < THREADS }
-    requires room { LINE_ROOM ≤ vec_capacity room.old }
-    ensures yes { result ≡ true → IsThreadsLine image.now line.now t matrix.old matrix.new }
-    ensures none { result ≡ false → (step : Pending) → first_step matrix.old t ≡ Some step
-        → SaysNotLine image.now line.now matrix.old t step }
-    ensures same { result ≡ false → matrix.new ≡ matrix.old }
-    ensures capacity { vec_capacity room.old ≤ vec_capacity room.new }
-{
-    match matrix.next_step(t) {
-        None => at_rest(matrix, image, t, line, room),
-        Some(step) => by_step(matrix, image, t, &step, 1, line, room),
-    }
-}
-
-/// Makes the step after one that may be left out, if the line says that.
-fn by_second(matrix: &mut Matrix, image: &Image, t: usize, line: &[u8], room: &mut Vec<u8>) -> bool
-    requires thread { t < THREADS }
-    requires room { LINE_ROOM ≤ vec_capacity room.old }
-    ensures yes { result ≡ true → IsThreadsLine image.now line.now t matrix.old matrix.new }
-    ensures none { result ≡ false → (step : Pending) → second_step matrix.old t ≡ Some step
-        → SaysNotLine image.now line.now matrix.old t step }
-    ensures same { result ≡ false → matrix.new ≡ matrix.old }
-    ensures capacity { vec_capacity room.old ≤ vec_capacity room.new }
-{
-    match matrix.second_step(t) {
-        None => false,
-        Some(step) => by_step(matrix, image, t, &step, 2, line, room),
-    }
-}
-
-/// Recycles an object, if the line says that.
-fn by_object(matrix: &mut Matrix, image: &Image, t: usize, line: &[u8], room: &mut Vec<u8>) -> bool
-    requires thread { t < THREADS }
-    requires started { IsTrue (is_started (thread_at matrix.old t).life) }
-    requires room { LINE_ROOM ≤ vec_capacity room.old }
-    ensures yes { result ≡ true → IsThreadsLine image.now line.now t matrix.old matrix.new }
-    ensures none { result ≡ false → SaysNotLine image.now line.now matrix.old t Pending.Recycle }
-    ensures same { result ≡ false → matrix.new ≡ matrix.old }
-    ensures capacity { vec_capacity room.old ≤ vec_capacity room.new }
-{
-    match row_for(matrix, image, t, &Pending::Recycle, line, room) {
-        Some(x) => {
-            matrix.recycle(x);
-            true
-        }
-        None => false,
-    }
-}
-
-/// Who has a pair with the object of a row.
-fn holders_of(pairs: &[[bool; THREADS]], x: usize) -> &[bool]
-    ensures value { result.now ≡ slice_index_or pairs.now x [] }
-    ensures few { length result.now ≤ THREADS }
-{
-    match pairs.get(x) {
-        Some(holders) => holders,
-        None => &[],
-    }
-}
-
-/// Drops a permission on the object of one row, of a thread whose own object is gone, if the line says that.
-fn by_pair_at(
-    matrix: &mut Matrix,
-    image: &Image,
-    t: usize,
-    x: usize,
-    line: &[u8],
-    room: &mut Vec<u8>,
-) -> bool
-    requires thread { t < THREADS }
-    requires row { x < ROWS }
-    requires started { IsTrue (is_started (thread_at matrix.old t).life) }
-    requires room { LINE_ROOM ≤ vec_capacity room.old }
-    ensures yes { result ≡ true → IsThreadsLine image.now line.now t matrix.old matrix.new }
-    ensures none { result ≡ false → (who : ThreadIx)
-        → SaysLine image.now line.now matrix.old t (Pending.CleanPair who) x → ⊥ }
-    ensures same { result ≡ false → matrix.new ≡ matrix.old }
-    ensures capacity { vec_capacity room.old ≤ vec_capacity room.new }
-{
-    for who in 0..holders_of(matrix.pairs(), x).len() {
-        let who = ThreadIx(who as u8);
-        if says_line(matrix, image, t, x, &Pending::CleanPair { who }, line, room) {
-            matrix.clean_pair(t, x, who);
-            return true;
+        match by_thread(tables, image, t, line, room) {
+            Some(choice) => return Some((t, choice)),
+            None => {}
         }
     }
-    false
+    None
 }
 
-/// Drops a permission of a thread whose own object is gone, if the line says that.
-fn by_pair(matrix: &mut Matrix, image: &Image, t: usize, line: &[u8], room: &mut Vec<u8>) -> bool
-    requires thread { t < THREADS }
-    requires started { IsTrue (is_started (thread_at matrix.old t).life) }
-    requires room { LINE_ROOM ≤ vec_capacity room.old }
-    ensures yes { result ≡ true → IsThreadsLine image.now line.now t matrix.old matrix.new }
-    ensures none { result ≡ false → (who : ThreadIx)
-        → SaysNotLine image.now line.now matrix.old t (Pending.CleanPair who) }
-    ensures same { result ≡ false → matrix.new ≡ matrix.old }
-    ensures capacity { vec_capacity room.old ≤ vec_capacity room.new }
-{
-    for x in 0..matrix.pairs().len() {
-        if by_pair_at(matrix, image, t, x, line, room) {
-            return true;
-        }
-    }
-    false
-}
-
-/// Makes a step that cleans, if the line is that of one.
-fn by_cleaning(
-    matrix: &mut Matrix,
-    image: &Image,
-    t: usize,
-    line: &[u8],
-    room: &mut Vec<u8>,
-) -> bool
-    requires thread { t < THREADS }
-    requires room { LINE_ROOM ≤ vec_capacity room.old }
-    ensures yes { result ≡ true → IsThreadsLine image.now line.now t matrix.old matrix.new }
-    ensures pairs { result ≡ false → IsTrue (is_started (thread_at matrix.old t).life) → (who : ThreadIx)
-        → SaysNotLine image.now line.now matrix.old t (Pending.CleanPair who) }
-    ensures objects { result ≡ false → IsTrue (is_started (thread_at matrix.old t).life)
-        → SaysNotLine image.now line.now matrix.old t Pending.Recycle }
-    ensures same { result ≡ false → matrix.new ≡ matrix.old }
-    ensures capacity { vec_capacity room.old ≤ vec_capacity room.new }
-{
-    if !matrix.is_started(t) {
-        return false;
-    }
-    by_object(matrix, image, t, line, room) || by_pair(matrix, image, t, line, room)
-}
-
-/// Makes a step of a thread, if the line is that of one.
-fn by_thread(matrix: &mut Matrix, image: &Image, t: usize, line: &[u8], room: &mut Vec<u8>) -> bool
-    requires thread { t < THREADS }
-    requires room { LINE_ROOM ≤ vec_capacity room.old }
-    ensures yes { result ≡ true → IsThreadsLine image.now line.now t matrix.old matrix.new }
-    ensures no { result ≡ false → IsNoThreadsLine image.now line.now t matrix.old }
-    ensures same { result ≡ false → matrix.new ≡ matrix.old }
-    ensures capacity { vec_capacity room.old ≤ vec_capacity room.new }
-{
-    if by_first(matrix, image, t, line, room) {
-        return true;
-    }
-    if by_second(matrix, image, t, line, room) {
-        return true;
-    }
-    by_cleaning(matrix, image, t, line, room)
-}
-
-/// The same, with a first look at how the line begins: a thread's lines begin with its name.
-fn by_named(
-    matrix: &mut Matrix,
-    image: &Image,
-    t: usize,
-    beginning: &[u8],
-    line: &[u8],
-    room: &mut Vec<u8>,
-) -> bool
-    requires thread { t < THREADS }
-    requires beginning { beginning.now ≡ thread_text image.now t ++ codes " " }
-    requires room { LINE_ROOM ≤ vec_capacity room.old }
-    ensures yes { result ≡ true → IsThreadsLine image.now line.now t matrix.old matrix.new }
-    ensures no { result ≡ false → IsNoThreadsLine image.now line.now t matrix.old }
-    ensures same { result ≡ false → matrix.new ≡ matrix.old }
-    ensures capacity { vec_capacity room.old ≤ vec_capacity room.new }
-{
-    if !line.starts_with(beginning) {
-        return false;
-    }
-    by_thread(matrix, image, t, line, room)
-}
-
-/// Makes a step, if the line is that of one. The line begins with the thread's object. Any other line changes nothing.
+/// Makes a step, if the line is that of one. Any other line changes nothing.
 pub fn takes_line(
     matrix: &mut Matrix,
     image: &Image,
@@ -342,11 +205,11 @@ pub fn takes_line(
     ensures same { result ≡ false → matrix.new ≡ matrix.old }
     ensures capacity { vec_capacity room.old ≤ vec_capacity room.new }
 {
-    let _threads = matrix.threads().len();
-    for (t, name) in names.iter().enumerate() {
-        if by_named(matrix, image, t, name.as_slice(), line, room) {
-            return true;
+    match choice_of(matrix.tables(), image, names, line, room) {
+        None => false,
+        Some((t, choice)) => {
+            matrix.make(t, &choice);
+            true
         }
     }
-    false
 }

@@ -10,8 +10,10 @@ use Rattle.um_base.specs.declared.names.Range.{Range}
 use Rattle.um_base.specs.declared.names.Ref.{Ref}
 use Rattle.um_base.specs.declared.names.Row.{Row}
 use Rattle.um_base.specs.declared.names.Term.{Term}
+use Rattle.um_base.specs.declared.names.Timeout.{Timeout}
 use Rattle.um_base.specs.declared.image.Boot.{Boot}
 use Rattle.um_base.specs.declared.image.DomainDef.{DomainDef}
+use Rattle.um_base.specs.declared.image.Futex.{Futex}
 use Rattle.um_base.specs.declared.image.Image.{Image}
 use Rattle.um_base.specs.declared.image.ObjectDef.{ObjectDef}
 use Rattle.um_base.specs.declared.image.Partition.{Partition}
@@ -50,7 +52,7 @@ is_name name = nat_le (length name) 24 && begins_with_letter name && list_all is
 abbrev pub names_of : Image → List (List ℕ)
 names_of image =
     map (λ (p : Pool). p.name) image.pools ++ map (λ (p : Partition). p.name) image.partitions ++ map (λ (d : DomainDef). d.name) image.domains
-    ++ map (λ (o : ObjectDef). o.name) image.objects ++ map (λ (s : Script). s.name) image.scripts
+    ++ map (λ (o : ObjectDef). o.name) image.objects ++ map (λ (s : Script). s.name) image.scripts ++ map (λ (f : Futex). f.name) image.futexes
 
 abbrev pub are_distinct_names : List (List ℕ) → Bool
 are_distinct_names [] = true
@@ -99,6 +101,8 @@ is_setup_of mpu Kind.Mutex Setup.Mutex = true
 is_setup_of mpu Kind.Msgq (Setup.Msgq size most) = is_within 1 256 size && is_within 1 64 most
 is_setup_of mpu Kind.Stack (Setup.Stack entries) = is_within 1 64 entries
 is_setup_of mpu Kind.Pipe (Setup.Pipe size) = is_within 1 256 size
+is_setup_of mpu Kind.Timer Setup.Timer = true
+is_setup_of mpu Kind.Timer Setup.Bare = false
 is_setup_of mpu Kind.Thread Setup.Bare = false
 is_setup_of mpu Kind.ThreadStack Setup.Bare = false
 is_setup_of mpu kind Setup.Bare = true
@@ -183,11 +187,18 @@ is_part image (PartRef.Named name) = false
 is_part image (PartRef.At i) = nat_lt i (length image.partitions)
 is_part image (PartRef.Given range attr) = is_named_attr attr
 
+-- whether a call may wait so long: not at all, for good, or one to a million ticks
+abbrev pub is_wait : Timeout → Bool
+is_wait Timeout.NoWait = true
+is_wait Timeout.Forever = true
+is_wait (Timeout.Ticks n) = is_within 1 1000000 n
+
 abbrev pub is_size : ℕ → Bool
 is_size n = n == 1 || n == 2 || n == 4
 
 abbrev pub is_dynamic_kind : Kind → Bool
 is_dynamic_kind Kind.ThreadStack = false
+is_dynamic_kind Kind.Timer = false
 is_dynamic_kind _ = true
 
 -- a line of the i-th script
@@ -222,20 +233,30 @@ is_lawful_line image i (Instr.Create thread stack size script priority options) 
 is_lawful_line image i (Instr.UserMode script) = is_later image i script
 is_lawful_line image i (Instr.NameSet thread addr) = is_operand thread && is_operand addr
 is_lawful_line image i (Instr.SemInit object count limit) = is_operand object && is_operand count && is_operand limit
-is_lawful_line image i (Instr.SemTake object timeout) = is_operand object
-is_lawful_line image i (Instr.MutexLock object timeout) = is_operand object
+is_lawful_line image i (Instr.SemTake object timeout) = is_operand object && is_wait timeout
+is_lawful_line image i (Instr.MutexLock object timeout) = is_operand object && is_wait timeout
 is_lawful_line image i (Instr.SemCount object to) = is_operand object && is_register to
 is_lawful_line image i (Instr.MsgqUsed object to) = is_operand object && is_register to
 is_lawful_line image i (Instr.MsgqInit object size most) = is_operand object && is_operand size && is_operand most
-is_lawful_line image i (Instr.MsgqPut object addr timeout) = is_operand object && is_operand addr
-is_lawful_line image i (Instr.MsgqGet object addr timeout) = is_operand object && is_operand addr
-is_lawful_line image i (Instr.StackPop object addr timeout) = is_operand object && is_operand addr
+is_lawful_line image i (Instr.MsgqPut object addr timeout) = is_operand object && is_operand addr && is_wait timeout
+is_lawful_line image i (Instr.MsgqGet object addr timeout) = is_operand object && is_operand addr && is_wait timeout
+is_lawful_line image i (Instr.StackPop object addr timeout) = is_operand object && is_operand addr && is_wait timeout
 is_lawful_line image i (Instr.MsgqPeek object addr) = is_operand object && is_operand addr
 is_lawful_line image i (Instr.StackInit object entries) = is_operand object && is_operand entries
 is_lawful_line image i (Instr.StackPush object value) = is_operand object && is_operand value
 is_lawful_line image i (Instr.PipeInit object size) = is_operand object && is_operand size
-is_lawful_line image i (Instr.PipeWrite object addr length timeout) = is_operand object && is_operand addr && is_operand length
-is_lawful_line image i (Instr.PipeRead object addr length timeout) = is_operand object && is_operand addr && is_operand length
+is_lawful_line image i (Instr.PipeWrite object addr length timeout) = is_operand object && is_operand addr && is_operand length && is_wait timeout
+is_lawful_line image i (Instr.PipeRead object addr length timeout) = is_operand object && is_operand addr && is_operand length && is_wait timeout
+is_lawful_line image i (Instr.TimerStart object ticks) = is_operand object && is_operand ticks
+is_lawful_line image i (Instr.TimerStop object) = is_operand object
+is_lawful_line image i (Instr.TimerStatus object to) = is_operand object && is_register to
+is_lawful_line image i (Instr.TimerSync object to) = is_operand object && is_register to
+is_lawful_line image i (Instr.Abort thread) = is_operand thread
+is_lawful_line image i (Instr.Join thread timeout) = is_operand thread && is_wait timeout
+is_lawful_line image i (Instr.Suspend thread) = is_operand thread
+is_lawful_line image i (Instr.Continue thread) = is_operand thread
+is_lawful_line image i (Instr.FutexWait addr value timeout) = is_operand addr && is_operand value && is_wait timeout
+is_lawful_line image i (Instr.FutexWake addr all) = is_operand addr
 
 -- where a line stands to the last repeat: outside of one, right behind it, or further inside
 pub data Block : Type 0 where
@@ -260,6 +281,23 @@ is_lawful_script image i script =
 abbrev pub are_lawful_scripts : Image → ℕ → List Script → Bool
 are_lawful_scripts image i [] = true
 are_lawful_scripts image i (script ∷ scripts) = is_lawful_script image i script && are_lawful_scripts image (i + 1) scripts
+
+-- Futexes.
+
+-- the address of a futex: it lies in its partition
+abbrev pub futex_start : Option Partition → ℕ → ℕ
+futex_start None offset = offset
+futex_start (Some p) offset = p.range.start.0 + offset
+
+abbrev pub futex_addr : Image → Futex → ℕ
+futex_addr image f = futex_start (slice_get image.partitions f.partition) f.offset
+
+abbrev pub futex_lies : Option Partition → ℕ → Bool
+futex_lies None offset = false
+futex_lies (Some p) offset = nat_le (offset + 4) p.range.size
+
+abbrev pub is_lawful_futex : Image → Futex → Bool
+is_lawful_futex image f = futex_lies (slice_get image.partitions f.partition) f.offset
 
 -- Read-only data stands at its place with its rounded size, or there is none.
 abbrev pub RodataStands : Mpu → List ℕ → Option Range → Type 0
@@ -296,4 +334,6 @@ pub record IsLawful (image : Image) : Type 0 where
   pub boot_threads : IsTrue (are_distinct (map (λ (b : Boot). b.thread.0) image.boots))
   pub boot_stacks : IsTrue (are_distinct (map (λ (b : Boot). b.stack.0) image.boots))
   pub scripts : IsTrue (are_lawful_scripts image 0 image.scripts)
+  pub futexes : IsTrue (list_all (is_lawful_futex image) image.futexes)
+  pub futexes_apart : IsTrue (are_distinct (map (futex_addr image) image.futexes))
   pub light : weight image ≤ MOST_WEIGHT

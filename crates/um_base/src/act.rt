@@ -245,6 +245,66 @@ pub enum Act {
     },
     /// Ends after its last line.
     Exit,
+    /// Sets a deadline for its call, or for a timer: so many ticks from the beginning.
+    Arm {
+        deadline: u64,
+    },
+    /// Lets virtual time go on to the next deadline.
+    Tick {
+        now: u64,
+    },
+    /// Wakes a thread whose deadline has come.
+    TimedOut {
+        who: ThreadIx,
+    },
+    /// Lets the timer at an address run out, whose deadline has come, and wakes a thread.
+    Expire {
+        addr: Addr,
+        woken: Replies,
+    },
+    /// Marks a thread as aborted, where it lives (Zephyr: `k_thread_abort`).
+    Abort {
+        who: ThreadIx,
+        done: bool,
+    },
+    /// Marks a thread as suspended, where it lives (Zephyr: `k_thread_suspend`).
+    Suspend {
+        who: ThreadIx,
+        done: bool,
+    },
+    /// Takes the mark of a suspended thread away, where it lives (Zephyr: `k_thread_resume`).
+    Continue {
+        who: ThreadIx,
+        done: bool,
+    },
+    /// Takes an aborted thread out of those who wait.
+    Cut {
+        who: ThreadIx,
+    },
+    /// Ends since it was aborted.
+    Killed,
+    /// Asks for the end of a thread (Zephyr: `k_thread_join`).
+    Join {
+        who: ThreadIx,
+        answer: Answer,
+    },
+    /// Tells all who wait for its end that it comes.
+    Left {
+        who: ThreadIx,
+        woken: Replies,
+    },
+    /// Waits on the futex at an address, where the number there is this one (Zephyr: `k_futex_wait`).
+    FutexWait {
+        addr: Addr,
+        value: u32,
+        answer: Answer,
+    },
+    /// Wakes who wait on the futex at an address (Zephyr: `k_futex_wake`).
+    FutexWake {
+        addr: Addr,
+        answer: Answer,
+        woken: Replies,
+    },
 }
 
 /// An act with the thread that does it.

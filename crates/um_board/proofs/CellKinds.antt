@@ -30,6 +30,8 @@ kind-after image (Cell.parts d) act moved = refl
 kind-after image (Cell.memory m) act moved = refl
 kind-after image (Cell.heap h) act moved = refl
 kind-after image (Cell.scheduler s) act moved = refl
+kind-after image (Cell.clock k) act moved = refl
+kind-after image (Cell.joins j) act moved = refl
 
 kind-follow : (x z : Known) (ms : List Made) → Follow Opens Follows x ms z → (z.image ≡ x.image) × (kind_of z.cell ≡ kind_of x.cell)
 kind-follow x z [] f = (ap (λ (k : Known). k.image) (sym f), ap (λ (k : Known). kind_of k.cell) (sym f))
@@ -43,7 +45,7 @@ known_in : Known → Option Known → Known
 known_in c (Some x) = x
 known_in c None = c
 
-pub contents-known : (image : Image) (i : ℕ) (c : Known) (ms : List Made) → 168 ≤ i → i < 307 → ContentsAre Opens Follows image i ms (Some c) → (c.image ≡ image) × (kind_of c.cell ≡ cell_kind_at i)
+pub contents-known : (image : Image) (i : ℕ) (c : Known) (ms : List Made) → 168 ≤ i → i < 309 → ContentsAre Opens Follows image i ms (Some c) → (c.image ≡ image) × (kind_of c.cell ≡ cell_kind_at i)
 unfolding known_in
 contents-known image i c ms low high k =
     let is : c ≡ k.0 = ap (known_in c) k.2 in
@@ -52,29 +54,41 @@ contents-known image i c ms low high k =
       ap (λ (x : Known). kind_of x.cell) is ∙ (f.1 ∙ kind-opens image i k.1 low high k.3),
     )
 
+-- the kind of a cell's site, by the first two tests
+abbrev kind_by : ℕ → Bool → Bool → CellKind
+kind_by site object parts =
+    if object then CellKind.Object
+    else if parts then CellKind.Domain
+    else if site == 304 then CellKind.Memory
+    else if site == 305 then CellKind.Heap
+    else if site == 306 then CellKind.Scheduler
+    else if site == 307 then CellKind.Clock
+    else if site == 308 then CellKind.Join
+    else CellKind.Unused
+
 -- the kinds of the sites of objects and of domains
 pub object-kind : (x : ℕ) → x < 128 → cell_kind_at (168 + x) ≡ CellKind.Object
-object-kind x low = ap (λ (b : Bool). if b then CellKind.Object else (if nat_lt (168 + x) 304 then CellKind.Domain else if (168 + x) == 304 then CellKind.Memory else if (168 + x) == 305 then CellKind.Heap else if (168 + x) == 306 then CellKind.Scheduler else CellKind.Unused)) (lt-ltb (168 + x) 296 (omega arith))
+object-kind x low = ap (λ (b : Bool). kind_by (168 + x) b (nat_lt (168 + x) 304)) (lt-ltb (168 + x) 296 (omega arith))
 
 pub parts-kind : (d : ℕ) → d < 8 → cell_kind_at (296 + d) ≡ CellKind.Domain
 parts-kind d low =
     let a : nat_lt (296 + d) 296 ≡ false = grind (arith, nat_tests) in
     let b : nat_lt (296 + d) 304 ≡ true = lt-ltb (296 + d) 304 (omega arith) in
-    λ i. if a i then CellKind.Object else if b i then CellKind.Domain else if (296 + d) == 304 then CellKind.Memory else if (296 + d) == 305 then CellKind.Heap else if (296 + d) == 306 then CellKind.Scheduler else CellKind.Unused
+    λ i. kind_by (296 + d) (a i) (b i)
 
 -- what was taken with a turn is of the board's image, and of the kind that its site has
-pub taken-known : (image : Image) (s t : Seat Known) (site word : ℕ) (c : Known) (past : List Made) → s.token.me.0.image ≡ image → 168 ≤ site → site < 307
+pub taken-known : (image : Image) (s t : Seat Known) (site word : ℕ) (c : Known) (past : List Made) → s.token.me.0.image ≡ image → 168 ≤ site → site < 309
     → HasTurn Opens Follows t.token.me site word None c → t.token.me.0 ≡ taking s.token.me.0 site word past → (c.image ≡ image) × (kind_of c.cell ≡ cell_kind_at site)
 taken-known image s t site word c past is low high turn now =
     let known = contents-known t.token.me.0.image site c turn.turn.past low high turn.contents in
     (known.0 ∙ (ap (λ (v : View). v.image) now ∙ is), known.1)
 
 -- a turn was taken
-pub in-turn : (image : Image) (board : TableId) (cells : Cells Known) (rodata : List ℕ) (s t : Seat Known) (most site word number ready running : ℕ) (c : Known) (cell : Cell) (past : List Made)
-    → IsPlaced image board cells rodata s most → 168 ≤ site → site < 307 → SameSeat s t → HasTurn Opens Follows t.token.me site word None c → t.token.me.0 ≡ taking s.token.me.0 site word past
-    → rest t.token.me.1 ≡ s.token.me.1 → cell_of word ≡ quiet_word ready running number → ((n : ℕ) → cell_word c.cell n ≡ quiet_word ready running n) → number < 268435455 → c.cell ≡ cell
+pub in-turn : (image : Image) (board : TableId) (cells : Cells Known) (rodata : List ℕ) (s t : Seat Known) (most site word number ready running owed : ℕ) (c : Known) (cell : Cell) (past : List Made)
+    → IsPlaced image board cells rodata s most → 168 ≤ site → site < 309 → SameSeat s t → HasTurn Opens Follows t.token.me site word None c → t.token.me.0 ≡ taking s.token.me.0 site word past
+    → rest t.token.me.1 ≡ s.token.me.1 → cell_of word ≡ quiet_word ready running owed number → ((n : ℕ) → cell_word c.cell n ≡ quiet_word ready running owed n) → number < 268435455 → c.cell ≡ cell
     → InTurn image board cells rodata t most site word number cell
-in-turn image board cells rodata s t most site word number ready running c cell past p low high same turn now slots says counts room is =
+in-turn image board cells rodata s t most site word number ready running owed c cell past p low high same turn now slots says counts room is =
     let k = (taken-turn s t site word past [] same now).keeps in
     let b = p.seated in
     let taken = taken-known image s t site word c past b.image_is low high turn now in

@@ -1,6 +1,6 @@
 -- The words with which a board opens: each fits into its bits, and none has taken a step.
-use Rattle.std.proofs.Common.{◌≡◌, ℕ, ◌+◌, ◌-◌, ◌<◌, ◌≤◌, Bool, true, false, List, [], ◌∷◌, Some, refl, sym, ap, ◌∙◌, arith, subst, length}
-use Rattle.std.specs.Prelude.{IsTrue, slice_index_or}
+use Rattle.std.proofs.Common.{◌≡◌, ◌≢◌, ℕ, ◌+◌, ◌-◌, ◌<◌, ◌≤◌, Bool, true, false, List, [], ◌∷◌, Option, Some, refl, sym, ap, ◌∙◌, arith, subst, length}
+use Rattle.std.specs.Prelude.{IfSome, IsTrue, slice_index_or}
 use Rattle.std.proofs.lemmas.Bool.{lt-ltb}
 use Rattle.std.proofs.lemmas.Bool.Decides.{nat_tests}
 use Rattle.std.proofs.lemmas.List.{get_or_default, length-map}
@@ -89,6 +89,7 @@ thread-fits image t w lawful few low e = record {
       let long = opening-threads image in
       let named = (opening-fresh image lawful).named (omega (arith, many, few)) t nobody (omega (arith, long, low)) in
       omega (arith, is, named);
+  note = subst (λ (n : Option ℕ). IfSome n (λ site. site < 65536)) (sym (ap (λ (z : SiteState). (thread_word (word_of z)).note) e)) tt;
   number = let is = ap (λ (z : SiteState). (thread_word (word_of z)).number) e in omega (arith, is);
 }
 
@@ -116,19 +117,23 @@ domain-packed image d p w back value low is =
 
 -- Cells.
 
-pub cell-value : (image : Image) (i : ℕ) → 168 ≤ i → i < 306 → opening_word image i ≡ 0
-cell-value image i low high = dite (dec_le 296 i)
+pub cell-value : (image : Image) (i : ℕ) → 168 ≤ i → i < 309 → i ≢ 306 → opening_word image i ≡ 0
+cell-value image i low high other = dite (dec_le 296 i)
     (λ parts. dite (dec_le 304 i)
     (λ last. dite (dec_le 305 i)
-    (λ heap. word-at image i Site.heap refl (omega arith))
+    (λ heap. dite (dec_le 307 i)
+    (λ time. dite (dec_le 308 i)
+    (λ joins. word-at image i Site.joins refl (omega arith))
+    (λ clock. word-at image i Site.clock refl (omega arith)))
+    (λ below. word-at image i Site.heap refl (let is : i ≢ 306 = other in omega (arith, is))))
     (λ memory. word-at image i Site.memory refl (omega arith)))
     (λ part. word-at image i (Site.parts (i - 296)) (grind (arith, nat_tests)) (omega arith)))
     (λ object. word-at image i (Site.object (i - 168)) (grind (arith, nat_tests)) (omega arith))
 
-pub scheduler-value : (image : Image) → packed_cell (quiet_word (length image.boots) 0 0) ≡ opening_word image 306
+pub scheduler-value : (image : Image) → packed_cell (quiet_word (length image.boots) 0 0 0) ≡ opening_word image 306
 scheduler-value image =
     let s = opening image in
-    ap (λ (n : ℕ). packed_cell (quiet_word n 0 0)) (sym (length-map s.image.boots (boot_index s) ∙ ap (λ (z : Image). length z.boots) (opening-image image)))
+    ap (λ (n : ℕ). packed_cell (quiet_word n 0 0 0)) (sym (length-map s.image.boots (boot_index s) ∙ ap (λ (z : Image). length z.boots) (opening-image image)))
 
 pub cell-number : (i p : ℕ) → 168 ≤ i → p < 68719476736 → number i p ≡ 0
 cell-number i p low small = high-number i p low ∙ omega (arith, small)

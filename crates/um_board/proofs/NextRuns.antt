@@ -1,5 +1,5 @@
 -- If each seat makes only the steps that its processor asks for, its list is a local run of that processor.
-use Rattle.std.proofs.Common.{◌≡◌, ℕ, ◌<◌, List, [], ◌∷◌, ◌++◌, map, refl, sym, ap, ◌∙◌, subst}
+use Rattle.std.proofs.Common.{◌≡◌, ℕ, zero, suc, ◌<◌, List, [], ◌∷◌, ◌++◌, map, refl, sym, ap, ◌∙◌, subst}
 use Rattle.um_base.specs.declared.image.Image.{Image}
 use Rattle.um_words.specs.History.{Entry, IsHistory, by_seat}
 use Rattle.um_words.specs.Sublists.{RunsBy}
@@ -14,14 +14,19 @@ use Rattle.um_tables.specs.Asked.{AsksFor}
 use Rattle.um_site.specs.declared.seat.Seat.{Seat}
 use Rattle.um_merge.specs.declared.logged.Logged.{Logged}
 use Rattle.um_board.specs.Contents.{Known}
-use Rattle.um_board.specs.NextSteps.{AreLocalRuns, IsNext, NextGoes, stands_at}
+use Rattle.um_board.specs.NextSteps.{AreLocalRuns, IsNext, NextGoes, seat_name, stands_at}
 use Rattle.um_board.specs.Noted.{made_of, packed}
 use Rattle.um_board.specs.ReadBack.{IsReadBack, fine_at, unpacked}
 use Rattle.um_board.specs.Seated.{Unnoted}
 
-abbrev first-of : ℕ → List ℕ → ℕ
-first-of d [] = d
-first-of d (k ∷ rest) = k
+-- the processor whose seat has this name
+abbrev named-by : List ℕ → ℕ
+named-by [] = 0
+named-by (k ∷ rest) = suc k
+
+named-back : (k : ℕ) → named-by (seat_name k) ≡ k
+named-back zero = refl
+named-back (suc k) = refl
 
 map-push : (f : Made → FineStep) (l : List Made) (m : Made) → map f (l ++ m ∷ []) ≡ map f l ++ f m ∷ []
 map-push f [] m = refl
@@ -32,24 +37,24 @@ module _ (image : Image) (k : ℕ) where
   stands-more done m =
       ap (ends (p_next image) idle) (map-push (fine_at k) done m) ∙ ends-append (λ p e. Unit {0}) (p_next image) idle (map (fine_at k) done) (fine_at k m ∷ [])
 
-  asks-of : (done : List Made) (m : Made) → NextGoes image (k ∷ []) done m → AsksFor k image (stands_at image k done) (fine_at k m)
+  asks-of : (done : List Made) (m : Made) → NextGoes image (seat_name k) done m → AsksFor k image (stands_at image k done) (fine_at k m)
   asks-of done m (j, less, named, asks) =
-      let same : k ≡ j = ap (first-of 0) named in
+      let same : k ≡ j = sym (named-back k) ∙ (ap named-by named ∙ named-back j) in
       subst (λ (i : ℕ). AsksFor i image (stands_at image i done) (fine_at i m)) (sym same) asks
 
-  runs-on : (done l : List Made) → RunsBy (NextGoes image (k ∷ [])) done l → Run (AsksFor k image) (p_next image) (stands_at image k done) (map (fine_at k) l)
+  runs-on : (done l : List Made) → RunsBy (NextGoes image (seat_name k)) done l → Run (AsksFor k image) (p_next image) (stands_at image k done) (map (fine_at k) l)
   runs-on done [] runs = tt
   runs-on done (m ∷ l) runs =
       (asks-of done m runs.0, subst (λ p. Run (AsksFor k image) (p_next image) p (map (fine_at k) l)) (stands-more done m) (runs-on (done ++ m ∷ []) l runs.1))
 
-nobody : (image : Image) (n : List ℕ) (l : List Made) → ((k : ℕ) → k < 8 → ¬ (n ≡ k ∷ [])) → RunsBy (NextGoes image n) [] l → l ≡ []
+nobody : (image : Image) (n : List ℕ) (l : List Made) → ((k : ℕ) → k < 8 → ¬ (n ≡ seat_name k)) → RunsBy (NextGoes image n) [] l → l ≡ []
 nobody image n [] none runs = refl
 nobody image n (m ∷ l) none runs = absurd (none runs.0.0 runs.0.1 runs.0.2)
 
 pub local-runs : (image : Image) (opening words : List ℕ) (h : List Entry) → IsHistory (NextGoes image) opening words h → AreLocalRuns image h
 local-runs image opening words h stands =
     record {
-      run = λ k few. runs-on image k [] (by_seat (k ∷ []) h) (stands.seats (k ∷ []));
+      run = λ k few. runs-on image k [] (by_seat (seat_name k) h) (stands.seats (seat_name k));
       others = λ n none. nobody image n (by_seat n h) none (stands.seats n);
     }
 

@@ -1,24 +1,22 @@
 -- A step that the word of a row, of a thread or of a domain takes is lawful at its site.
-use Rattle.std.proofs.Common.{◌≡◌, ℕ, ◌+◌, ◌%◌, ◌<◌, Bool, true, false, None, Some, nat_lt, if◌then◌else◌, IsTrue, refl, sym, ap, ◌∙◌, subst, arith}
-use Rattle.std.proofs.lemmas.Bool.{and_parts, ltb-true, lt-ltb}
+use Rattle.std.proofs.Common.{◌≡◌, ℕ, ◌+◌, ◌%◌, ◌<◌, Bool, true, false, None, Some, nat_lt, if◌then◌else◌, IsTrue, sym, ap, ◌∙◌, subst, arith}
+use Rattle.std.proofs.lemmas.Bool.{lt-ltb}
 use Rattle.std.proofs.lemmas.Bool.Decides.{nat_tests}
-use Rattle.um_base.specs.declared.act.Act.{Act}
 use Rattle.um_base.specs.declared.image.Image.{Image}
 use Rattle.um_words.specs.declared.fine.FineAct.{FineAct}
-use Rattle.um_words.specs.declared.fine.Unseen.{Unseen}
 use Rattle.um_words.specs.declared.kind.WordKind.{WordKind}
 use Rattle.um_words.specs.declared.row_word.RowWord.{RowWord}
 use Rattle.um_words.specs.declared.thread_word.ThreadWord.{ThreadWord}
 use Rattle.um_words.specs.declared.dom_word.DomWord.{DomWord}
 use Rattle.um_words.specs.BitLists.{length-bits}
-use Rattle.um_words.specs.Domains.{DomainMay, counted_domain, domain_after, domain_after_act, domain_after_unseen, domain_takes, domain_takes_act, domain_takes_unseen, writes}
-use Rattle.um_words.specs.WordFacts.{KeepsDomain}
+use Rattle.um_words.specs.Domains.{DomainMay, counted_domain, domain_after}
+use Rattle.um_words.specs.WordFacts.{domain-keeps, thread-left as fits-left}
 use Rattle.um_words.specs.Packed.{FitsDomain, FitsRow, FitsThread, domain_in, domain_of, is_domain, is_thread, packed_domain, packed_row, packed_thread, row_of, thread_in, thread_of}
 use Rattle.um_words.specs.RowFacts.{row-fits}
 use Rattle.um_words.specs.RowActs.{row_act_at, row_answers}
 use Rattle.um_words.specs.Rows.{RowMay, counted_row, row_after}
 use Rattle.um_words.specs.Steps.{StepIn, WordMay, cell_kind_at, kind_at, number, number_in}
-use Rattle.um_words.specs.Threads.{ThreadMay, counted_thread, thread_after, thread_after_act}
+use Rattle.um_words.specs.Threads.{ThreadMay, counted_thread, thread_after}
 use Rattle.um_fine.proofs.Words.{domain-may, row-may, thread-may}
 use Rattle.um_fine.specs.Answers.{domain_in as domain_word, row_in, thread_in as thread_word}
 use Rattle.um_fine.proofs.Keys.{number-back}
@@ -78,25 +76,12 @@ row-number site word z low is = ap (λ (k : WordKind). number_in k word) (at-row
 
 -- the same of a thread's word
 
-thread-kept : (w : ThreadWord) (act : FineAct) → (thread_after w act).number ≡ w.number
-thread-kept w (FineAct.Shown event more) = by event.act
-  where
-    by : (act : Act) → (thread_after_act w more act).number ≡ w.number
-    by Act.Exit = refl
-    by act = refl
-thread-kept w (FineAct.Unseen Unseen.Hold) = refl
-thread-kept w (FineAct.Unseen unseen) = refl
-
 module _ (image : Image) (e : FineStep) where
   pub thread-left : (w z : ThreadWord) → Takes image (SiteState.thread w) e (SiteState.thread z) → (e.word ≡ Word.thread z) × ThreadMay w e.act z × (z ≡ counted_thread (thread_after w e.act))
   thread-left w z t = let m = thread-may image e w t.may in left-is Word.thread (ThreadMay w e.act) e.word m.0 z _ m.1 m.2 m.2.leaves (ap (λ (s : SiteState). thread_word (word_of s)) t.leaves)
 
-  pub thread-packs : (w z : ThreadWord) → z.domain < 8 → Takes image (SiteState.thread w) e (SiteState.thread z) → FitsThread z
-  thread-packs w z domain t =
-      let l = thread-left w z t in
-      let n : z.number ≡ w.number + 1 = ap (λ (x : ThreadWord). x.number) l.2 ∙ ap (λ n. n + 1) (thread-kept w e.act) in
-      let room = l.1.room in
-      record { domain = domain; number = omega arith }
+  pub thread-packs : (w z : ThreadWord) → FitsThread w → Takes image (SiteState.thread w) e (SiteState.thread z) → FitsThread z
+  thread-packs w z fits t = fits-left w z e.act fits (thread-left w z t).1
 
   pub thread-lawful : (t seen : ℕ) (w z : ThreadWord) → t < 32 → thread_of seen ≡ Some w → Takes image (SiteState.thread w) e (SiteState.thread z) → (next : ℕ) → next ≡ packed_thread z
       → WordMay (128 + t) seen e.act next
@@ -105,27 +90,6 @@ module _ (image : Image) (e : FineStep) where
 
 -- the same of a domain's word
 
-module _ (w : DomWord) (fits : FitsDomain w) where
-  writing : IsTrue (writes w) → w.version + 1 < 1048576
-  writing h = let p : w.version < 1048575 = ltb-true w.version 1048575 (and_parts _ _ h).1 in omega arith
-
-  domain-act : (act : Act) → IsTrue (domain_takes_act w act) → KeepsDomain w (domain_after_act w act)
-  domain-act (Act.DomInit d reply) h = record { readers = fits.readers; version = writing h; number = refl }
-  domain-act (Act.DomAdd d range attr reply) h = record { readers = fits.readers; version = writing h; number = refl }
-  domain-act (Act.DomRemove d range attr reply) h = record { readers = fits.readers; version = writing h; number = refl }
-  domain-act (Act.DomMove d who reply) h = let f = fits.readers in record { readers = omega arith; version = fits.version; number = refl }
-  domain-act act h = absurd (cc)
-
-  domain-unseen : (unseen : Unseen) → IsTrue (domain_takes_unseen w unseen) → KeepsDomain w (domain_after_unseen w unseen)
-  domain-unseen Unseen.ReadClaim h = let p : w.readers < 127 = ltb-true w.readers 127 (and_parts _ _ h).1 in record { readers = omega arith; version = fits.version; number = refl }
-  domain-unseen Unseen.ReadDone h = let f = fits.readers in record { readers = omega arith; version = fits.version; number = refl }
-  domain-unseen Unseen.WriteClaim h = record { readers = fits.readers; version = fits.version; number = refl }
-  domain-unseen unseen h = absurd (cc)
-
-  domain-keeps : (act : FineAct) → IsTrue (domain_takes w act) → KeepsDomain w (domain_after w act)
-  domain-keeps (FineAct.Shown event more) h = domain-act event.act h
-  domain-keeps (FineAct.Unseen unseen) h = domain-unseen unseen h
-
 module _ (image : Image) (e : FineStep) where
   pub domain-left : (w z : DomWord) → Takes image (SiteState.domain w) e (SiteState.domain z) → (e.word ≡ Word.domain z) × DomainMay w e.act z × (z ≡ counted_domain (domain_after w e.act))
   domain-left w z t = let m = domain-may image e w t.may in left-is Word.domain (DomainMay w e.act) e.word m.0 z _ m.1 m.2 m.2.leaves (ap (λ (s : SiteState). domain_word (word_of s)) t.leaves)
@@ -133,7 +97,7 @@ module _ (image : Image) (e : FineStep) where
   pub domain-packs : (w z : DomWord) → FitsDomain w → Takes image (SiteState.domain w) e (SiteState.domain z) → FitsDomain z
   domain-packs w z fits t =
       let l = domain-left w z t in
-      let k = domain-keeps w fits e.act l.1.takes in
+      let k = domain-keeps w fits.readers fits.version e.act l.1.takes in
       let room = l.1.room in
       let n = k.number in
       subst FitsDomain (sym l.2) (record { readers = k.readers; version = k.version; number = omega arith })

@@ -31,8 +31,8 @@ pub record IsFirstWord (image : Image) (i w : ℕ) : Type 0 where
 
 -- There is a word for each site, and in it is what stands there at the opening.
 pub record AreOpening (image : Image) (words : List ℕ) : Type 0 where
-  pub count : length words ≡ 307
-  pub each : (i : ℕ) → i < 307 → slice_index words i ≡ packed (word_of (s_start image (site_numbered i)))
+  pub count : length words ≡ 309
+  pub each : (i : ℕ) → i < 309 → slice_index words i ≡ packed (word_of (s_start image (site_numbered i)))
 
 -- the cell at this site opens so, and so do the cells of the objects and of the domains
 abbrev pub OpensWith : Image → Site → Cell → Type 0

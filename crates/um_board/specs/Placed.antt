@@ -5,6 +5,7 @@ use Rattle.um_fine.specs.Cells.{Cell}
 use Rattle.um_fine.specs.Steps.{FineStep}
 use Rattle.um_site.specs.Tells.{last_got}
 use Rattle.um_board.specs.Contents.{known}
+use Rattle.um_board.specs.Kept.{HasRoom}
 use Rattle.um_board.specs.Saw.{Got, Hinders, SawAt, SawCell}
 use Rattle.um_board.specs.Seated.{Noted, Unnoted}
 use Rattle.um_board.specs.Turned.{InTurn, IsPlaced}
@@ -39,14 +40,15 @@ pub record HasSeen (s : Seated) (site : ℕ) (t : Seated) (word : ℕ) : Type 0 
   pub saw : SawAt s.seat site word
   pub log : t.log ≡ s.log
 
--- it has the turn of the cell at this site, as it saw the cell, and room to note a step
-pub record HasTaken (image : Image) (s : Seated) (site word number : ℕ) (cell : Cell) (t : Seated) : Type 0 where
+-- it has the turn of the cell at this site, as it saw the cell, with the room that there is for marks, and room to note a step
+pub record HasTaken (image : Image) (s : Seated) (site word number : ℕ) (cell : Cell) (room : Option ℕ) (t : Seated) : Type 0 where
   pub turn : HasTurnAt image t site word number cell
   pub free : length t.log.items < t.log.room
   pub got : Got s.seat t.seat site word
   pub saw : SawCell s.seat site word (known image cell)
+  pub marks : HasRoom image room
 
 -- what comes of asking for that turn: the turn with what the cell keeps, or none
-abbrev pub AsksTurn : {K : Type 0} → (K → Cell) → Image → Seated → ℕ → Option (Turn K × K) → Seated → Type 0
-AsksTurn cell_of image s site result t =
-    MatchOption result (WasHindered image s site t) (λ x. (x.1 ≡ x.0.before.value) × HasTaken image s site x.0.word x.0.number (cell_of x.0.before.value) t)
+abbrev pub AsksTurn : {K : Type 0} → (K → Cell) → (K → Option ℕ) → Image → Seated → ℕ → Option (Turn K × K) → Seated → Type 0
+AsksTurn cell_of room_of image s site result t =
+    MatchOption result (WasHindered image s site t) (λ x. (x.1 ≡ x.0.before.value) × HasTaken image s site x.0.word x.0.number (cell_of x.0.before.value) (room_of x.0.before.value) t)

@@ -12,15 +12,15 @@ use Rattle.um_board.specs.Contents.{Known}
 use Rattle.um_board.specs.Noted.{logged_of, made_of}
 use Rattle.um_board.specs.ReadBack.{IsReadBack}
 
--- how many words a board has: 128 of rows, 32 of threads, 8 of domains, and 139 of cells from site 168 on
+-- how many words a board has: 128 of rows, 32 of threads, 8 of domains, and 141 of cells from site 168 on
 abbrev pub WORDS : ℕ
-WORDS = 307
+WORDS = 309
 
 abbrev pub FIRST_CELL : ℕ
 FIRST_CELL = 168
 
 abbrev pub CELLS : ℕ
-CELLS = 139
+CELLS = 141
 
 -- The seat is at this board of the image, has no turn, and knows that all cells have their contents.
 pub record IsSeated (image : Image) (board : TableId) (cells : Cells Known) (seat : Seat Known) : Type 0 where

@@ -29,6 +29,8 @@ kind_of (Cell.parts d) = CellKind.Domain
 kind_of (Cell.memory m) = CellKind.Memory
 kind_of (Cell.heap h) = CellKind.Heap
 kind_of (Cell.scheduler s) = CellKind.Scheduler
+kind_of (Cell.clock c) = CellKind.Clock
+kind_of (Cell.joins j) = CellKind.Join
 
 -- the kind of the cell at a site
 abbrev pub cell_kind : Site → CellKind
@@ -37,6 +39,8 @@ cell_kind (Site.parts d) = CellKind.Domain
 cell_kind Site.memory = CellKind.Memory
 cell_kind Site.heap = CellKind.Heap
 cell_kind Site.scheduler = CellKind.Scheduler
+cell_kind Site.clock = CellKind.Clock
+cell_kind Site.joins = CellKind.Join
 cell_kind _ = CellKind.Unused
 
 -- The same, but the seat has the turn of the cell at this site. The contents are of the site's kind, the word says how many steps the cell

@@ -1,24 +1,26 @@
 //! The contents with which the cells of an image's board open.
 
-ghost use Rattle.std.specs.Prelude.{◌≡◌, ◌+◌, ◌<◌, ℕ, IfOk, length, slice_index_or};
+ghost use Rattle.std.specs.Prelude.{◌≡◌, ◌+◌, ◌<◌, ◌≤◌, ℕ, IfOk, length, slice_index_or};
+ghost use Rattle.um_base.specs.Weight.{weight};
 ghost use Rattle.um_base.specs.declared.limits.TheConstants.{DOMAINS, ROWS};
 ghost use Rattle.um_fine.specs.{Cells.{Cell}, Sites.{site_numbered}, Steps.{Site}};
 ghost use Rattle.um_tables.specs.ObjectCells.{cleared};
-ghost use Rattle.um_board.specs.{Kept.{cell_of}, Opening.{AreDomainCells, AreFirst, AreObjects, OpensWith}};
+ghost use Rattle.um_board.specs.{Kept.{HasRoom, cell_of, room_of}, Opening.{AreDomainCells, AreFirst, AreObjects, OpensWith}};
 
 use crate::contents::{Contents, Kept};
 use crate::object_room::ObjectRoom;
 use std::alloc::Global;
 use um_base::{Image, OutOfMemory, ROWS};
-use um_tables::{Bytes, DomainCell, Heap, ObjectCells, Scheduler};
+use um_tables::{Bytes, Clock, DomainCell, Heap, Joins, ObjectCells, Scheduler};
 
 /// How many cells a board has.
-const CELLS: usize = 139;
+const CELLS: usize = 141;
 
 /// Adds one cell.
 fn add(image: &Image, all: &mut Vec<Contents>, kept: Kept) -> Result<(), OutOfMemory>
     requires first { AreFirst image.now all.old.items }
     requires opens { OpensWith image.now (site_numbered (168 + length all.old.items)) (cell_of kept) }
+    requires room { HasRoom image.now (room_of kept) }
     ensures first { IfOk result (λ _. AreFirst image.now all.new.items) }
     ensures one { IfOk result (λ _. length all.new.items ≡ length all.old.items + 1) }
 {
@@ -88,6 +90,8 @@ pub fn first_contents(
     memory: Bytes,
     heap: Heap,
     scheduler: Scheduler,
+    clock: Clock,
+    joins: Joins,
 ) -> Result<Vec<Contents>, OutOfMemory>
     requires objects { AreObjects image.now objects }
     requires parts { AreDomainCells image.now domain_cells.items }
@@ -95,8 +99,11 @@ pub fn first_contents(
     requires memory { OpensWith image.now Site.memory (Cell.memory memory) }
     requires heap { OpensWith image.now Site.heap (Cell.heap heap) }
     requires scheduler { OpensWith image.now Site.scheduler (Cell.scheduler scheduler) }
+    requires clock { OpensWith image.now Site.clock (Cell.clock clock.clock) }
+    requires joins { OpensWith image.now Site.joins (Cell.joins joins) }
+    requires room { weight image.now < clock.most }
     ensures first { IfOk result (λ all. AreFirst image.now all.items) }
-    ensures all { IfOk result (λ all. length all.items ≡ 139) }
+    ensures all { IfOk result (λ all. length all.items ≡ 141) }
 {
     let mut all = Vec::with_capacity(alloc, CELLS)?;
     add_objects(alloc, image, &mut all, objects)?;
@@ -108,5 +115,7 @@ pub fn first_contents(
         &mut all,
         Kept::Scheduler(Box::new(alloc, scheduler)?),
     )?;
+    add(image, &mut all, Kept::Clock(Box::new(alloc, clock)?))?;
+    add(image, &mut all, Kept::Joins(Box::new(alloc, joins)?))?;
     Ok(all)
 }

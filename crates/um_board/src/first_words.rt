@@ -1,21 +1,19 @@
 //! The words with which the board of an image opens.
 
-ghost use Rattle.std.specs.Prelude.{◌≡◌, ℕ, ◌+◌, ◌%◌, ◌<◌, ◌≤◌, IfOk, length, slice_index};
+ghost use Rattle.std.specs.Prelude.{◌≡◌, ◌≢◌, ℕ, ◌+◌, ◌%◌, ◌<◌, ◌≤◌, IfOk, length, slice_index};
 ghost use Rattle.um_base.specs.{Lawful.{IsLawful}, declared.limits.TheConstants.{DOMAINS, ROWS, THREADS}};
 ghost use Rattle.um_machine.specs.Run.{opening};
 ghost use Rattle.um_words.specs.Steps.{number};
 ghost use Rattle.um_opening.specs.Opened.{AreDomains, AreRows, AreThreads};
 ghost use Rattle.um_board.specs.Opening.{AreOpening, IsFirstWord};
 
+use crate::places::SCHEDULER;
 use std::alloc::Global;
 use um_base::{Image, OutOfMemory};
 use um_words::{CellWord, DomWord, RowWord, ThreadWord};
 
 /// How many words a board has.
-const WORDS: u16 = 307;
-
-/// The site of the scheduler, which is the last one.
-const SCHEDULER: u16 = 306;
+const WORDS: u16 = 309;
 
 /// The word of a row.
 fn row_word(image: &Image, rows: &[RowWord], row: u16) -> u64
@@ -51,7 +49,7 @@ fn domain_word(image: &Image, domains: &[DomWord], site: u16, domain: u16) -> u6
 
 /// The word of a cell but the scheduler's.
 fn cell_word(image: &Image, site: u16) -> u64
-    requires site { (168 ≤ site) × (site < 306) }
+    requires site { (168 ≤ site) × (site < 309) × (site ≢ 306) }
     ensures { IsFirstWord image.now site result }
 {
     let _ = image;
@@ -82,7 +80,7 @@ fn word_at(
 ) -> u64
     requires lawful { IsLawful image.now }
     requires few { length image.now.domains ≤ DOMAINS }
-    requires site { site < 307 }
+    requires site { site < 309 }
     requires rows { AreRows (opening image.now) ROWS rows.now }
     requires threads { AreThreads (opening image.now) THREADS threads.now }
     requires domains { AreDomains (opening image.now) DOMAINS domains.now }

@@ -8,12 +8,14 @@ mod first_board;
 mod first_contents;
 mod first_words;
 mod kind;
+mod looks;
 mod next_step;
 mod object_room;
+mod places;
 mod seated;
 mod sites;
 
-pub use contents::{Contents, Kept};
+pub use contents::{Contents, Counts, Kept};
 pub use fine::{AsMade, Fine};
 pub use first_board::opening;
 pub use next_step::NextStep;

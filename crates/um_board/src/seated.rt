@@ -12,6 +12,7 @@ ghost use Rattle.um_fine.specs.{
 ghost use Rattle.um_site.specs.Tells.{NoOlder, last_got};
 ghost use Rattle.um_tables.specs.Asked.{Takes, event_of};
 ghost use Rattle.um_board.specs.{
+  Kept.{HasRoom},
   NextSteps.{IsNext},
   Noted.{made_of, number_of},
   Placed.{AsksTurn, HasMadeNone, HasMadeThere, HasSeen, HasTurnAt, IsAt},
@@ -19,10 +20,11 @@ ghost use Rattle.um_board.specs.{
   Saw.{Hinders, SawAt},
 };
 
-use crate::contents::Contents;
+use crate::contents::{Contents, Counts};
 use crate::fine::{AsMade, Fine};
 use crate::kind::Kind;
 use crate::next_step::NextStep;
+use crate::places::SCHEDULER;
 use std::snapshot::Snapshot;
 use um_base::{Event, Image};
 use um_cell::{Cells, Held};
@@ -33,9 +35,6 @@ use um_words::{CellWord, step_number};
 
 /// The greatest step number: there a cell takes no step.
 const LAST: u32 = 0xfff_ffff;
-
-/// The site of the scheduler.
-const SCHEDULER: u16 = 306;
 
 /// A processor's place at a board: its seat, and the log of the steps that it made, in reserved room.
 #[derive(Drop)]
@@ -59,16 +58,17 @@ pub struct Turn<K> {
     pub before: Snapshot<K>,
 }
 
-/// How many steps a cell has taken, if its word counts this many threads and the cell can take one more step.
-fn steps_of(word: u64, ready: u8, running: u8) -> Option<u32>
-    ensures { MatchOption result ((n : ℕ) → n < 268435455 → cell_of word ≢ quiet_word ready running n)
-        (λ n. (cell_of word ≡ quiet_word ready running n) × (n < 268435455)) }
+/// How many steps a cell has taken, if its word counts these and the cell can take one more step.
+fn steps_of(word: u64, counts: &Counts) -> Option<u32>
+    ensures { let c = counts.now in
+        MatchOption result ((n : ℕ) → n < 268435455 → cell_of word ≢ quiet_word c.ready c.running c.owed n)
+        (λ n. (cell_of word ≡ quiet_word c.ready c.running c.owed n) × (n < 268435455)) }
 {
     let word = CellWord::read(word);
     if word.turn
-        || word.ready != ready
-        || word.running != running
-        || word.owed != 0
+        || word.ready != counts.ready
+        || word.running != counts.running
+        || word.owed != counts.owed
         || word.number >= LAST
     {
         return None;
@@ -110,7 +110,7 @@ impl<'a> Seated<'a> {
     /// Reads the word of a site.
     pub(crate) fn look(&mut self, image: &Image, site: u16) -> u64
         requires image { IsAt image.now self.old }
-        requires site { site < 307 }
+        requires site { site < 309 }
         ensures image { IsAt image.now self.new }
         ensures unnoted { HasMadeNone self.old self.new }
         ensures got { self.new.seat.token.me.0.got ≡ (site, result) ∷ self.old.seat.token.me.0.got }
@@ -138,7 +138,7 @@ impl<'a> Seated<'a> {
     /// Reads the word of a site, and returns it if the log has room for one more step.
     pub(crate) fn look_to_step(&mut self, image: &Image, site: u16) -> Option<u64>
         requires image { IsAt image.now self.old }
-        requires site { site < 307 }
+        requires site { site < 309 }
         ensures image { IsAt image.now self.new }
         ensures unnoted { HasMadeNone self.old self.new }
         ensures seen { MatchOption result
@@ -201,9 +201,9 @@ impl<'a> Seated<'a> {
     /// It looks first, so that seats that wait for a turn only read the word and don't disturb the seat that is to write it.
     pub(crate) fn turn<K: Kind>(&mut self, image: &Image, site: u16) -> Option<(Turn<K>, K)>
         requires image { IsAt image.now self.old }
-        requires site { (168 ≤ site) × (site < 307) × (cell_kind_at site ≡ K.kind) }
+        requires site { (168 ≤ site) × (site < 309) × (cell_kind_at site ≡ K.kind) }
         ensures unnoted { HasMadeNone self.old self.new }
-        ensures turn { AsksTurn K.cell image.now self.old site result self.new }
+        ensures turn { AsksTurn K.cell K.room image.now self.old site result self.new }
     {
         if self.look(image, site) % 2 == 1 {
             return None;
@@ -214,9 +214,9 @@ impl<'a> Seated<'a> {
     /// The same, without looking first.
     pub(crate) fn turn_at_once<K: Kind>(&mut self, image: &Image, site: u16) -> Option<(Turn<K>, K)>
         requires image { IsAt image.now self.old }
-        requires site { (168 ≤ site) × (site < 307) × (cell_kind_at site ≡ K.kind) }
+        requires site { (168 ≤ site) × (site < 309) × (cell_kind_at site ≡ K.kind) }
         ensures unnoted { HasMadeNone self.old self.new }
-        ensures turn { AsksTurn K.cell image.now self.old site result self.new }
+        ensures turn { AsksTurn K.cell K.room image.now self.old site result self.new }
     {
         let held = match self.cells.take(self.board, &mut self.seat, site) {
             Err(_) => return None,
@@ -226,8 +226,8 @@ impl<'a> Seated<'a> {
             self.cells.put_quiet(self.board, &mut self.seat, held);
             return None;
         }
-        let (ready, running) = held.contents.counts();
-        match steps_of(held.word, ready, running) {
+        let counts = held.contents.counts();
+        match steps_of(held.word, &counts) {
             None => {
                 self.cells.put_quiet(self.board, &mut self.seat, held);
                 None
@@ -252,6 +252,7 @@ impl<'a> Seated<'a> {
     pub(crate) fn put_back<K: Kind>(&mut self, image: &Image, site: u16, turn: Turn<K>, cell: K)
         requires turn { HasTurnAt image.now self.old site turn.word turn.number (K.cell turn.before.value) }
         requires same { K.cell cell ≡ K.cell turn.before.value }
+        requires room { HasRoom image.now (K.room cell) }
         ensures image { IsAt image.now self.new }
         ensures unnoted { HasMadeNone self.old self.new }
     {
@@ -267,7 +268,7 @@ impl<'a> Seated<'a> {
     /// Makes a step of a cell whose turn it has: leaves these contents, gives the turn back, and notes the step. Only the proof uses
     /// `which` and `about`, to pick the step that is made.
     #[inline(always)]
-    pub(crate) fn leave<D: Fine, K: Kind, A>(
+    pub(crate) fn leave_cell<D: Fine, K: Kind, A>(
         &mut self,
         here: &Here,
         site: u16,
@@ -283,6 +284,7 @@ impl<'a> Seated<'a> {
         requires takes { Takes here.now.image.now
             (SiteState.cell turn.number (K.cell turn.before.value)) D.step
             (SiteState.cell (turn.number + 1) (K.cell cell)) }
+        requires room { HasRoom here.now.image.now (K.room cell) }
         requires site { site_number D.step.site ≡ site }
         requires there { IsTrue (is_site D.step.site) }
         requires cpu { D.step.cpu ≡ here.now.cpu }
@@ -294,12 +296,16 @@ impl<'a> Seated<'a> {
         let _ = which;
         let _ = about;
         let contents = Contents::new(here.image, cell.into_kept());
-        let (ready, running) = contents.counts();
+        let Counts {
+            ready,
+            running,
+            owed,
+        } = contents.counts();
         let next = CellWord {
             turn: false,
             ready,
             running,
-            owed: 0,
+            owed,
             number: turn.number + 1,
         }
         .pack();

@@ -1,33 +1,23 @@
 //! The sites of a board, as a processor shares them with others.
 
 use crate::object_room::ObjectRoom;
+use crate::places::{
+    CLOCK, DOMAINS_FROM, HEAP, JOINS, MEMORY, OBJECTS_FROM, PARTS_FROM, SCHEDULER, THREADS_FROM,
+};
 use crate::seated::Seated;
 use std::marker::Brand;
 use std::snapshot::Snapshot;
-use um_base::{Addr, Image, Parts, Piece, Reply, Row, ThreadIx, Told, Waiter};
+use um_base::{Addr, Answer, Image, Parts, Piece, Reply, Row, ThreadIx, Timeout, Told, Waiter};
 use um_machine::{Cost, Pending};
-use um_service::Outcome;
+use um_service::{Outcome, Woken};
 use um_tables::{
-    Bytes, Context, DomainCell, Heap, HeapAct, HeapSaid, Here, MemoryAct, MemorySaid, Said,
-    Scheduler, Sites, edited, load, named, resumed, worked,
+    Bytes, Clock, Context, DomainCell, FutexWait, FutexWake, Heap, HeapAct, HeapSaid, Here, Joins,
+    Look, MemoryAct, MemorySaid, Said, Scheduler, Seeker, Sites, Waiting, armed, edited, expired,
+    joined, left, load, named, resumed, ticked, waited, woke, worked,
 };
-use um_words::{CellWord, DomWord, DomainAct, RowAct, RowSaid, RowWord, ThreadAct, ThreadWord};
-
-/// The sites of the cells of memory, of the heap and of the scheduler.
-const MEMORY: u16 = 304;
-
-const HEAP: u16 = 305;
-
-const SCHEDULER: u16 = 306;
-
-/// The first sites of the other sorts. Rows begin at site 0.
-const THREADS_FROM: u16 = 128;
-
-const DOMAINS_FROM: u16 = 160;
-
-const OBJECTS_FROM: u16 = 168;
-
-const PARTS_FROM: u16 = 296;
+use um_words::{
+    CellWord, DomWord, DomainAct, Mark, RowAct, RowSaid, RowWord, ThreadAct, ThreadWord,
+};
 
 impl Sites for Seated<'_> {
     ghost use Rattle.std.specs.Prelude.{◌≡◌};
@@ -123,7 +113,7 @@ impl Sites for Seated<'_> {
             return Said::Changed;
         };
         load(parts, &cell.parts);
-        self.leave::<Brand, _, _>(here, site, domain, turn, cell, &None, &());
+        self.leave_cell::<Brand, _, _>(here, site, domain, turn, cell, &None, &());
         Said::Made(())
     }
 
@@ -134,7 +124,7 @@ impl Sites for Seated<'_> {
         };
         let (parts, reply) = edited(here.image, call, &cell.parts);
         cell.parts = parts;
-        self.leave::<Brand, _, _>(here, site, domain, turn, cell, &None, call);
+        self.leave_cell::<Brand, _, _>(here, site, domain, turn, cell, &None, call);
         Said::Made(reply)
     }
 
@@ -144,15 +134,16 @@ impl Sites for Seated<'_> {
         row: Row,
         addr: Addr,
         who: &Waiter,
+        noted: u32,
         outcome: &mut Outcome,
     ) -> Said<()> {
         let site = OBJECTS_FROM + row.0 as u16;
         let Some((turn, mut cell)) = self.turn::<ObjectRoom>(here.image, site) else {
             return Said::Changed;
         };
-        cell.work(who, outcome);
+        cell.work(who, noted, outcome);
         let event = Some(worked(addr, who, outcome));
-        self.leave::<Brand, _, _>(here, site, row.0, turn, cell, &event, &(addr, who));
+        self.leave_cell::<Brand, _, _>(here, site, row.0, turn, cell, &event, &(addr, who, noted));
         Said::Made(())
     }
 
@@ -170,7 +161,15 @@ impl Sites for Seated<'_> {
         };
         cell.name(bytes);
         let event = Some(named(thread, who));
-        self.leave::<Brand, _, _>(here, site, row.0, turn, cell, &event, &(thread, who, bytes));
+        self.leave_cell::<Brand, _, _>(
+            here,
+            site,
+            row.0,
+            turn,
+            cell,
+            &event,
+            &(thread, who, bytes),
+        );
         Said::Made(())
     }
 
@@ -180,7 +179,7 @@ impl Sites for Seated<'_> {
             return Said::Changed;
         };
         let size = cell.message_size();
-        self.leave::<Brand, _, _>(here, site, row.0, turn, cell, &None, &());
+        self.leave_cell::<Brand, _, _>(here, site, row.0, turn, cell, &None, &());
         Said::Made(size)
     }
 
@@ -190,7 +189,7 @@ impl Sites for Seated<'_> {
             return Said::Changed;
         };
         let buffer = cell.clear();
-        self.leave::<Brand, _, _>(here, site, row.0, turn, cell, &None, &());
+        self.leave_cell::<Brand, _, _>(here, site, row.0, turn, cell, &None, &());
         Said::Made(buffer)
     }
 
@@ -201,7 +200,7 @@ impl Sites for Seated<'_> {
         let sent = Snapshot::of(buffer);
         let said = cell.make(here.image, self.rodata, act, buffer);
         let event = act.event(&said);
-        self.leave::<Brand, _, _>(here, MEMORY, 0, turn, cell, &event, &(act, sent));
+        self.leave_cell::<Brand, _, _>(here, MEMORY, 0, turn, cell, &event, &(act, sent));
         Said::Made(said)
     }
 
@@ -211,7 +210,7 @@ impl Sites for Seated<'_> {
         };
         let said = cell.make(here.image, act, charge);
         let event = act.event(&said);
-        self.leave::<Brand, _, _>(here, HEAP, 0, turn, cell, &event, &(act, charge));
+        self.leave_cell::<Brand, _, _>(here, HEAP, 0, turn, cell, &event, &(act, charge));
         Said::Made(said)
     }
 
@@ -232,7 +231,7 @@ impl Sites for Seated<'_> {
             Some(woken) => woken,
         };
         let event = resumed(context.thread(), woken);
-        self.leave::<Brand, _, _>(here, SCHEDULER, 0, turn, cell, &event, &());
+        self.leave_cell::<Brand, _, _>(here, SCHEDULER, 0, turn, cell, &event, &());
         Said::Made(woken)
     }
 
@@ -247,7 +246,7 @@ impl Sites for Seated<'_> {
             }
             Some(ready) => ready,
         };
-        self.leave::<Brand, _, _>(here, SCHEDULER, 0, turn, cell, &None, &(who, told));
+        self.leave_cell::<Brand, _, _>(here, SCHEDULER, 0, turn, cell, &None, &(who, told));
         Said::Made(())
     }
 
@@ -260,7 +259,7 @@ impl Sites for Seated<'_> {
             self.put_back(here.image, SCHEDULER, turn, cell);
             return Said::Busy;
         }
-        self.leave::<Brand, _, _>(here, SCHEDULER, 0, turn, cell, &None, &given);
+        self.leave_cell::<Brand, _, _>(here, SCHEDULER, 0, turn, cell, &None, &given);
         Said::Made(())
     }
 
@@ -276,7 +275,7 @@ impl Sites for Seated<'_> {
             }
             Some(ready) => ready,
         };
-        self.leave::<Brand, _, _>(here, SCHEDULER, 0, turn, cell, &None, &given);
+        self.leave_cell::<Brand, _, _>(here, SCHEDULER, 0, turn, cell, &None, &given);
         Said::Made(())
     }
 
@@ -288,7 +287,209 @@ impl Sites for Seated<'_> {
             self.put_back(here.image, SCHEDULER, turn, cell);
             return Said::Busy;
         }
-        self.leave::<Brand, _, _>(here, SCHEDULER, 0, turn, cell, &None, &());
+        self.leave_cell::<Brand, _, _>(here, SCHEDULER, 0, turn, cell, &None, &());
         Said::Made(())
+    }
+
+    fn cut(&mut self, here: &Here, who: ThreadIx) -> Said<()> {
+        let Some((turn, mut cell)) = self.turn::<Box<Scheduler>>(here.image, SCHEDULER) else {
+            return Said::Changed;
+        };
+        let _ready = match cell.cut(who) {
+            None => {
+                self.put_back(here.image, SCHEDULER, turn, cell);
+                return Said::Busy;
+            }
+            Some(ready) => ready,
+        };
+        self.leave_cell::<Brand, _, _>(here, SCHEDULER, 0, turn, cell, &None, &who);
+        Said::Made(())
+    }
+
+    fn owe(&mut self, here: &Here) -> Said<()> {
+        let Some((turn, mut cell)) = self.turn::<Box<Scheduler>>(here.image, SCHEDULER) else {
+            return Said::Changed;
+        };
+        if !cell.owe() {
+            self.put_back(here.image, SCHEDULER, turn, cell);
+            return Said::Busy;
+        }
+        self.leave_cell::<Brand, _, _>(here, SCHEDULER, 0, turn, cell, &None, &());
+        Said::Made(())
+    }
+
+    fn pay(&mut self, here: &Here) -> Said<()> {
+        let Some((turn, mut cell)) = self.turn::<Box<Scheduler>>(here.image, SCHEDULER) else {
+            return Said::Changed;
+        };
+        if !cell.pay() {
+            self.put_back(here.image, SCHEDULER, turn, cell);
+            return Said::Busy;
+        }
+        self.leave_cell::<Brand, _, _>(here, SCHEDULER, 0, turn, cell, &None, &());
+        Said::Made(())
+    }
+
+    fn look(&mut self, here: &Here, cell: Waiting, look: &Look) -> Said<bool> {
+        match cell {
+            Waiting::Object(row) => self.look_at_object(here, row, look),
+            Waiting::Memory => self.look_at_memory(here, look),
+            Waiting::Joins => self.look_at_joins(here, look),
+        }
+    }
+
+    fn expire(
+        &mut self,
+        here: &Here,
+        row: Row,
+        thread: ThreadIx,
+        addr: Addr,
+        deadline: u64,
+        woken: &mut Woken,
+    ) -> Said<bool> {
+        let site = OBJECTS_FROM + row.0 as u16;
+        let Some((turn, mut cell)) = self.turn::<ObjectRoom>(here.image, site) else {
+            return Said::Changed;
+        };
+        let found = cell.expire(deadline, woken);
+        let event = expired(thread, addr, woken, found);
+        self.leave_cell::<Brand, _, _>(
+            here,
+            site,
+            row.0,
+            turn,
+            cell,
+            &event,
+            &(thread, addr, deadline),
+        );
+        Said::Made(found)
+    }
+
+    fn futex_wait(&mut self, here: &Here, act: &FutexWait) -> Said<Answer> {
+        let Some((turn, mut cell)) = self.turn::<Box<Bytes>>(here.image, MEMORY) else {
+            return Said::Changed;
+        };
+        let answer = cell.wait(here.image, self.rodata, act);
+        let event = Some(waited(act, answer));
+        self.leave_cell::<Brand, _, _>(here, MEMORY, 0, turn, cell, &event, act);
+        Said::Made(answer)
+    }
+
+    fn futex_wake(&mut self, here: &Here, act: &FutexWake, woken: &mut Woken) -> Said<Answer> {
+        let Some((turn, mut cell)) = self.turn::<Box<Bytes>>(here.image, MEMORY) else {
+            return Said::Changed;
+        };
+        let answer = cell.wake(here.image, act, woken);
+        let event = Some(woke(act, answer, woken));
+        self.leave_cell::<Brand, _, _>(here, MEMORY, 0, turn, cell, &event, act);
+        Said::Made(answer)
+    }
+
+    fn arm(&mut self, here: &Here, thread: ThreadIx, ticks: u32, mark: Mark) -> Said<u64> {
+        let Some((turn, mut cell)) = self.turn::<Box<Clock>>(here.image, CLOCK) else {
+            return Said::Changed;
+        };
+        if cell.is_full() {
+            self.put_back(here.image, CLOCK, turn, cell);
+            return Said::Changed;
+        }
+        let deadline = cell.arm(ticks, mark);
+        let event = Some(armed(thread, deadline));
+        self.leave_cell::<Brand, _, _>(here, CLOCK, 0, turn, cell, &event, &(thread, ticks, mark));
+        Said::Made(deadline)
+    }
+
+    fn settle(&mut self, here: &Here, deadline: u64, mark: Mark) -> Said<()> {
+        let Some((turn, mut cell)) = self.turn::<Box<Clock>>(here.image, CLOCK) else {
+            return Said::Changed;
+        };
+        cell.settle(deadline, mark);
+        self.leave_cell::<Brand, _, _>(here, CLOCK, 0, turn, cell, &None, &(deadline, mark));
+        Said::Made(())
+    }
+
+    fn give(&mut self, here: &Here) -> Said<(u64, Mark)> {
+        let Some((turn, mut cell)) = self.turn::<Box<Clock>>(here.image, CLOCK) else {
+            return Said::Changed;
+        };
+        let given = match cell.give() {
+            None => {
+                self.put_back(here.image, CLOCK, turn, cell);
+                return Said::Busy;
+            }
+            Some(given) => given,
+        };
+        self.leave_cell::<Brand, _, _>(here, CLOCK, 0, turn, cell, &None, &());
+        Said::Made(given)
+    }
+
+    fn tick(&mut self, here: &Here, thread: ThreadIx) -> Said<()> {
+        let Some((turn, mut cell)) = self.turn::<Box<Clock>>(here.image, CLOCK) else {
+            return Said::Changed;
+        };
+        let now = match cell.tick() {
+            None => {
+                self.put_back(here.image, CLOCK, turn, cell);
+                return Said::Busy;
+            }
+            Some(now) => now,
+        };
+        let event = Some(ticked(thread, now));
+        self.leave_cell::<Brand, _, _>(here, CLOCK, 0, turn, cell, &event, &thread);
+        Said::Made(())
+    }
+
+    fn join(
+        &mut self,
+        here: &Here,
+        seeker: &Seeker,
+        who: ThreadIx,
+        timeout: Timeout,
+    ) -> Said<Answer> {
+        let Some((turn, mut cell)) = self.turn::<Box<Joins>>(here.image, JOINS) else {
+            return Said::Changed;
+        };
+        let answer = cell.join(seeker, who, timeout);
+        let event = Some(joined(seeker.thread, who, answer));
+        self.leave_cell::<Brand, _, _>(here, JOINS, 0, turn, cell, &event, &(seeker, who, timeout));
+        Said::Made(answer)
+    }
+
+    fn leave(&mut self, here: &Here, who: ThreadIx, woken: &mut Woken) -> Said<bool> {
+        let Some((turn, mut cell)) = self.turn::<Box<Joins>>(here.image, JOINS) else {
+            return Said::Changed;
+        };
+        let joined = cell.leave(who, woken);
+        let event = left(who, woken, joined);
+        self.leave_cell::<Brand, _, _>(here, JOINS, 0, turn, cell, &event, &who);
+        Said::Made(joined)
+    }
+
+    fn unshut(&mut self, here: &Here, who: ThreadIx) -> Said<()> {
+        let Some((turn, mut cell)) = self.turn::<Box<Joins>>(here.image, JOINS) else {
+            return Said::Changed;
+        };
+        cell.unshut(who);
+        self.leave_cell::<Brand, _, _>(here, JOINS, 0, turn, cell, &None, &who);
+        Said::Made(())
+    }
+
+    fn sleep(&mut self, here: &Here, context: &mut Box<Context>) -> Said<()> {
+        let Some((turn, mut cell)) = self.turn::<Box<Joins>>(here.image, JOINS) else {
+            return Said::Changed;
+        };
+        let given = Snapshot::of(context);
+        cell.sleep(context);
+        self.leave_cell::<Brand, _, _>(here, JOINS, 0, turn, cell, &None, &given);
+        Said::Made(())
+    }
+
+    fn rouse(&mut self, here: &Here, who: ThreadIx, context: &mut Box<Context>) -> Said<bool> {
+        let Some((turn, mut cell)) = self.turn::<Box<Joins>>(here.image, JOINS) else {
+            return Said::Changed;
+        };
+        let found = cell.rouse(who, context);
+        self.leave_cell::<Brand, _, _>(here, JOINS, 0, turn, cell, &None, &who);
+        Said::Made(found)
     }
 }

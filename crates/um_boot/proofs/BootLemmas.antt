@@ -11,17 +11,19 @@ use Rattle.um_base.specs.declared.image.Setup.{Setup}
 use Rattle.um_machine.specs.Limits.{is_in_limits}
 use Rattle.um_base.specs.declared.image.Image.{Image}
 use Rattle.um_base.specs.Regions.{Partitions}
+use Rattle.um_base.specs.declared.ask.Waiter.{Waiter}
 use Rattle.um_machine.specs.declared.object.Object.{Object}
 use Rattle.um_machine.specs.declared.thread.Thread.{Thread}
 use Rattle.um_machine.specs.State.{State}
 
 -- a state by the equations of its tables
 pub state-is : (s : State) {image : Image} {threads : List Thread} {objects : List Object} {pairs : List (List Bool)} {domains : List (Option Partitions)}
-    {memory stacks pools : List ℕ}
-    → image ≡ s.image → threads ≡ s.threads → objects ≡ s.objects → pairs ≡ s.pairs → domains ≡ s.domains → memory ≡ s.memory → stacks ≡ s.stacks → pools ≡ s.pools
-    → ◌≡◌ {A = State} (record { image = image; threads = threads; objects = objects; pairs = pairs; domains = domains; memory = memory; stacks = stacks; pools = pools }) s
-state-is s i t o p d m k q =
-    λ j. record { image = i j; threads = t j; objects = o j; pairs = p j; domains = d j; memory = m j; stacks = k j; pools = q j }
+    {memory stacks pools : List ℕ} {now : ℕ} {armed : List ℕ} {joins futexes : List Waiter}
+    → image ≡ s.image → threads ≡ s.threads → objects ≡ s.objects → pairs ≡ s.pairs → domains ≡ s.domains → memory ≡ s.memory → stacks ≡ s.stacks → pools ≡ s.pools → now ≡ s.now → armed ≡ s.armed
+    → joins ≡ s.joins → futexes ≡ s.futexes
+    → ◌≡◌ {A = State} (record { image = image; threads = threads; objects = objects; pairs = pairs; domains = domains; memory = memory; stacks = stacks; pools = pools; now = now; armed = armed; joins = joins; futexes = futexes }) s
+state-is s i t o p d m k q n a w f =
+    λ j. record { image = i j; threads = t j; objects = o j; pairs = p j; domains = d j; memory = m j; stacks = k j; pools = q j; now = n j; armed = a j; joins = w j; futexes = f j }
 
 -- a setup of a kind keeps the limits
 setup-limits : (mpu : Mpu) (kind : Kind) (setup : Setup) → IsTrue (is_setup_of mpu kind setup) → IsTrue (is_in_limits setup)
@@ -32,6 +34,7 @@ setup-limits mpu kind (Setup.Thread index) h = refl
 setup-limits mpu kind (Setup.ThreadStack range declared) h = refl
 setup-limits mpu kind (Setup.Sem count limit) h = refl
 setup-limits mpu kind Setup.Mutex h = refl
+setup-limits mpu kind Setup.Timer h = refl
 setup-limits mpu kind Setup.Bare h = refl
 setup-limits mpu kind setup h = cc
 

@@ -2,15 +2,15 @@
 
 mod boot;
 
-ghost use Rattle.std.specs.Prelude.{◌≡◌, ◌≤◌, length};
+ghost use Rattle.std.specs.Prelude.{◌≡◌, ◌≤◌, [], length};
 
 use crate::opening_parts::OpeningParts;
 use std::marker::Model;
 use um_base::{AREA_SIZE, DOMAINS, Image, POOLS, Parts, ROWS, THREADS};
 use um_machine::Thread;
 
-/// A state of the machine in which the objects are still those of the image, which contracts see as the definitions have it.
-/// No object is made: the image says what stands at each row.
+/// A state of the machine whose objects are still those of the image. Contracts see the state as the definitions have it.
+/// No object is made: the image says what stands at each row. No time has passed, and nobody waits.
 #[derive(Drop)]
 pub struct OpeningState<'a> {
     image: &'a Image,
@@ -24,7 +24,7 @@ pub struct OpeningState<'a> {
 }
 
 impl<'a> Model for OpeningState<'a> {
-    ghost use Rattle.std.specs.Prelude.{◌≡◌, ◌≤◌, length};
+    ghost use Rattle.std.specs.Prelude.{◌≡◌, ◌≤◌, [], length};
     ghost use Rattle.um_base.specs.declared.limits.TheConstants.{THREADS, ROWS, DOMAINS, AREA_SIZE, POOLS};
     ghost use Rattle.um_machine.specs.{State.{State}, Memory.{rodata_of}, Run.{objects_from}};
     ghost use Rattle.um_steps.specs.Given.{IsGiven};
@@ -40,6 +40,10 @@ impl<'a> Model for OpeningState<'a> {
       memory = m.memory.items;
       stacks = m.stacks.items;
       pools = m.pools.items;
+      now = 0;
+      armed = [];
+      joins = [];
+      futexes = [];
     } };
 
     ghost invariant = { λ m.
@@ -104,6 +108,10 @@ impl<'a> OpeningState<'a> {
         ensures whole_stacks { length result.stacks.items ≡ AREA_SIZE }
         ensures pools { result.pools.items ≡ self.entry.pools }
         ensures few_pools { length result.pools.items ≤ POOLS }
+        ensures now { self.entry.now ≡ 0 }
+        ensures armed { self.entry.armed ≡ [] }
+        ensures joins { self.entry.joins ≡ [] }
+        ensures futexes { self.entry.futexes ≡ [] }
     {
         OpeningParts {
             image: self.image,

@@ -17,7 +17,7 @@ use Rattle.um_document.proofs.EmptyLists.{no_front, no_back}
 use Rattle.um_script.specs.Numbers.{is_digit}
 use Rattle.um_script.proofs.DigitsAgain.{list_all-weaker, decimal-spells}
 use Rattle.um_description.specs.Duplicates.{if_again, names_again, variables_again, partitions_again, parts_again, domain_again, domains_again, added}
-use Rattle.um_description.specs.Names.{Text, is_among, items, variables_of, variable_names, names_within, pool_names, partition_names, domain_names, object_names, script_names}
+use Rattle.um_description.specs.Names.{Text, is_among, items, variables_of, variable_names, names_within, pool_names, partition_names, domain_names, object_names, script_names, futex_names}
 use Rattle.um_description.proofs.LawfulDistinct.{are_new}
 use Rattle.um_description.proofs.LawfulLists.{length_mapped}
 use Rattle.um_description.proofs.LawfulNames.{all_names, HasNoDuplicates, names_distinct}
@@ -87,7 +87,7 @@ fresh_lawful taken count small =
 
 -- ---- names that are new stand in no place
 
-none_again : (before : List Text) (place : Place) (text : Text) → not (is_among text before) ≡ true → if_again before place text ≡ []
+pub none_again : (before : List Text) (place : Place) (text : Text) → not (is_among text before) ≡ true → if_again before place text ≡ []
 none_again before place text h = let no = not-true (is_among text before) h in rw no refl
 
 pub no_names_again : (before : List Text) (s : Section) (i : ℕ) (names : List Text) → are_new before names ≡ true → names_again before s i names ≡ []
@@ -152,8 +152,8 @@ within_woven mpu [] (p ∷ ps) h = absurd (omega (arith, h))
 within_woven mpu (v ∷ vs) (p ∷ ps) h = rw (within_woven mpu vs ps (omega (arith, h))) refl
 
 -- all names of a description, in another nesting
-nested : (a b c e f : List Text) → a ++ b ++ c ++ e ++ f ≡ a ++ (b ++ (c ++ (e ++ f)))
-nested a b c e f = simp append_assoc refl
+nested : (a b c e f g : List Text) → a ++ b ++ c ++ e ++ f ++ g ≡ a ++ (b ++ (c ++ (e ++ (f ++ g))))
+nested a b c e f g = simp append_assoc refl
 
 free_of_none : (names : List Text) → AreFree names []
 free_of_none [] = tt
@@ -161,10 +161,10 @@ free_of_none (n ∷ names) = (refl, free_of_none names)
 
 -- the names that are printed are all new, one behind the other
 pub all_new : (d : Description) (variables : List Text) → HasNoDuplicates d → AreFree variables (all_names d) → are_distinct_names variables ≡ true
-    → are_new [] (pool_names d ++ (woven (partition_names d) variables ++ (domain_names d ++ (object_names d ++ script_names d)))) ≡ true
+    → are_new [] (pool_names d ++ (woven (partition_names d) variables ++ (domain_names d ++ (object_names d ++ (script_names d ++ futex_names d))))) ≡ true
 all_new d variables h free apart =
-    let rest = domain_names d ++ (object_names d ++ script_names d) in
-    let same = nested (pool_names d) (partition_names d) (domain_names d) (object_names d) (script_names d) in
+    let rest = domain_names d ++ (object_names d ++ (script_names d ++ futex_names d)) in
+    let same = nested (pool_names d) (partition_names d) (domain_names d) (object_names d) (script_names d) (futex_names d) in
     let distinct : are_distinct_names (pool_names d ++ (partition_names d ++ rest)) ≡ true = subst (λ (xs : List Text). are_distinct_names xs ≡ true) same (names_distinct d h) in
     let free_too : AreFree variables (pool_names d ++ (partition_names d ++ rest)) = subst (λ (xs : List Text). AreFree variables xs) same free in
     let woven_too = woven_distinct (pool_names d) (partition_names d) variables rest distinct free_too apart in

@@ -1,10 +1,11 @@
 -- The text of an entry is that of its pieces, one behind the other.
-use Rattle.std.proofs.Common.{◌≡◌, ℕ, List, [], ◌++◌, codes, decimal, false, option_map, refl, sym, ap, ◌∙◌, append_assoc}
+use Rattle.std.proofs.Common.{◌≡◌, ℕ, List, [], ◌++◌, codes, decimal, pos, false, option_map, refl, sym, ap, ◌∙◌, append_assoc}
 use Rattle.std.proofs.lemmas.Grind.{flat_map-append}
 use Rattle.std.proofs.lemmas.List.{append-nil}
 use Rattle.std.specs.List.{flat_map}
 use Rattle.um_base.specs.declared.image.Boot.{Boot}
 use Rattle.um_base.specs.declared.image.DomainDef.{DomainDef}
+use Rattle.um_base.specs.declared.image.Futex.{Futex}
 use Rattle.um_base.specs.declared.image.Image.{Image}
 use Rattle.um_base.specs.declared.image.ObjectDef.{ObjectDef}
 use Rattle.um_base.specs.declared.image.Partition.{Partition}
@@ -17,7 +18,7 @@ use Rattle.um_canonical.specs.declared.names.NameTable.{NameTable}
 use Rattle.um_canonical.specs.Entries.{Names, packed, names_at, row_names, details_by}
 use Rattle.um_canonical.specs.Named.{name_at}
 use Rattle.um_canonical.specs.Objects.{number_pair, text_pair, truth_pairs, details_pairs, kind_of_details}
-use Rattle.um_canonical.specs.Pieces.{pair_text, pairs_text, header_text, top_text, pool_text, variable_text, partition_text, partitions_text, domain_text, object_text, boot_text, script_text}
+use Rattle.um_canonical.specs.Pieces.{pair_text, pairs_text, header_text, top_text, pool_text, variable_text, partition_text, partitions_text, domain_text, object_text, boot_text, script_text, futex_text}
 use Rattle.um_canonical.specs.Sections.{data_atoms, given_pairs, pool_pairs, grant_pairs, texts_pair}
 use Rattle.um_canonical.specs.Tables.{shown_line, shown_lines, boot_by, script_by, text_by}
 
@@ -113,7 +114,17 @@ pub script_is : (t0 t1 t2 t3 : List ℕ) (t : NameTable) (s : Script)
 unfolding script_text shown_line
 script_is t0 t1 t2 t3 t s head name lines = behind t0 t1 t3 _ _ head (behind t1 t2 t3 _ _ name (last t2 t3 _ lines))
 
-pub text_is : (t0 t1 t2 t3 t4 t5 t6 t7 : List ℕ) (t : NameTable) (numbers : List ℕ) (image : Image)
+pub futex_is : (t0 t1 t2 t3 t4 : List ℕ) (partitions : Names) (f : Futex)
+    → t1 ≡ t0 ++ header_text Key.Futex
+    → t2 ≡ t1 ++ pair_text (text_pair Key.Name f.name)
+    → t3 ≡ t2 ++ pair_text (text_pair Key.Partition (name_at partitions f.partition))
+    → t4 ≡ t3 ++ pair_text (number_pair Key.Offset (pos f.offset))
+    → t4 ≡ t0 ++ futex_text partitions f
+unfolding futex_text
+futex_is t0 t1 t2 t3 t4 partitions f head name partition offset =
+    behind t0 t1 t4 _ _ head (behind t1 t2 t4 _ _ name (behind t2 t3 t4 _ _ partition (last t3 t4 _ offset)))
+
+pub text_is : (t0 t1 t2 t3 t4 t5 t6 t7 t8 : List ℕ) (t : NameTable) (numbers : List ℕ) (image : Image)
     → t1 ≡ t0 ++ top_text image
     → t2 ≡ t1 ++ flat_map pool_text image.pools
     → t3 ≡ t2 ++ partitions_text numbers image.partitions
@@ -121,7 +132,8 @@ pub text_is : (t0 t1 t2 t3 t4 t5 t6 t7 : List ℕ) (t : NameTable) (numbers : Li
     → t5 ≡ t4 ++ flat_map object_text image.objects
     → t6 ≡ t5 ++ flat_map (boot_by t) image.boots
     → t7 ≡ t6 ++ flat_map (script_by t) image.scripts
-    → t7 ≡ t0 ++ text_by t numbers image
-text_is t0 t1 t2 t3 t4 t5 t6 t7 t numbers image top pools partitions domains objects boots scripts =
-    behind t0 t1 t7 _ _ top (behind t1 t2 t7 _ _ pools (behind t2 t3 t7 _ _ partitions
-    (behind t3 t4 t7 _ _ domains (behind t4 t5 t7 _ _ objects (behind t5 t6 t7 _ _ boots scripts)))))
+    → t8 ≡ t7 ++ flat_map (futex_text t.partitions.items) image.futexes
+    → t8 ≡ t0 ++ text_by t numbers image
+text_is t0 t1 t2 t3 t4 t5 t6 t7 t8 t numbers image top pools partitions domains objects boots scripts futexes =
+    behind t0 t1 t8 _ _ top (behind t1 t2 t8 _ _ pools (behind t2 t3 t8 _ _ partitions
+    (behind t3 t4 t8 _ _ domains (behind t4 t5 t8 _ _ objects (behind t5 t6 t8 _ _ boots (behind t6 t7 t8 _ _ scripts futexes))))))

@@ -13,6 +13,7 @@ use Rattle.um_document.specs.declared.description.BootEntry.{BootEntry}
 use Rattle.um_document.specs.declared.description.Description.{Description}
 use Rattle.um_document.specs.declared.description.Details.{Details}
 use Rattle.um_document.specs.declared.description.DomainEntry.{DomainEntry}
+use Rattle.um_document.specs.declared.description.FutexEntry.{FutexEntry}
 use Rattle.um_document.specs.declared.description.ObjectEntry.{ObjectEntry}
 use Rattle.um_document.specs.declared.description.PoolEntry.{PoolEntry}
 use Rattle.um_document.specs.declared.description.ScriptEntry.{ScriptEntry}
@@ -25,10 +26,10 @@ use Rattle.um_canonical.proofs.Toml.Strings.{is_plain_byte}
 use Rattle.um_canonical.proofs.Toml.Values.{is_plain, is_bare_key, ArePlain}
 use Rattle.um_canonical.specs.Entries.{Packed}
 use Rattle.um_canonical.specs.Objects.{pairs_by}
-use Rattle.um_canonical.specs.Sections.{hex_digit, encoded, bytes_pairs, pool_by, partition_by, domain_by, boot_by, script_by}
+use Rattle.um_canonical.specs.Sections.{hex_digit, encoded, bytes_pairs, pool_by, partition_by, domain_by, boot_by, script_by, futex_by}
 use Rattle.um_canonical.proofs.PlainLines.{attr_plain}
 use Rattle.um_canonical.proofs.PrintedSections.{is_byte}
-use Rattle.um_canonical.specs.Text.{of_pool, of_partition, of_domain, of_object, of_boot, of_script, top_by, sections_by, top_of, sections_of}
+use Rattle.um_canonical.specs.Text.{of_pool, of_partition, of_domain, of_object, of_boot, of_script, of_futex, top_by, sections_by, top_of, sections_of}
 
 abbrev pub Fits : ℤ → Type 0
 Fits z = FitsSigned w64 z
@@ -80,6 +81,9 @@ domain_plain name (Some ts) h k = ((refl, h), ((refl, k), tt))
 script_plain : (name : List ℕ) (lines : List (List ℕ)) → Plain name → ArePlain lines → ArePlainLines (pair_lines (script_by name lines))
 script_plain name lines h k = ((refl, h), ((refl, k), tt))
 
+futex_plain : (name partition : List ℕ) (offset : ℤ) → Plain name → Plain partition → Fits offset → ArePlainLines (pair_lines (futex_by name partition offset))
+futex_plain name partition offset h k l = ((refl, h), ((refl, k), ((refl, l), tt)))
+
 abbrev pub DetailsFit : Details → Type 0
 DetailsFit (Details.ThreadStack size) = Fits size
 DetailsFit (Details.Sem (Some n)) = Fits n.count × Fits n.limit
@@ -113,6 +117,8 @@ object_plain name true (Details.Pipe None) h k = ((refl, h), ((refl, refl), ((re
 object_plain name false (Details.Pipe None) h k = ((refl, h), ((refl, refl), tt))
 object_plain name true (Details.Pipe (Some n)) h k = ((refl, h), ((refl, refl), ((refl, tt), ((refl, k), tt))))
 object_plain name false (Details.Pipe (Some n)) h k = ((refl, h), ((refl, refl), ((refl, k), tt)))
+object_plain name true Details.Timer h k = ((refl, h), ((refl, refl), ((refl, tt), tt)))
+object_plain name false Details.Timer h k = ((refl, h), ((refl, refl), tt))
 
 abbrev pub PoolPlain : Option (List ℕ) → Type 0
 PoolPlain None = Unit {0}
@@ -159,6 +165,9 @@ pub record BootIsPlain (b : BootEntry) : Type 0 where
 abbrev pub ScriptIsPlain : ScriptEntry → Type 0
 ScriptIsPlain s = Plain s.name × ArePlain s.lines
 
+abbrev pub FutexIsPlain : FutexEntry → Type 0
+FutexIsPlain f = Plain f.name × Plain f.partition × Fits f.offset
+
 pub record IsPlainDescription (d : Description) (ps : List Packed) : Type 0 where
   pub regions : Fits d.regions
   pub rodata : list_all is_byte d.rodata ≡ true
@@ -168,6 +177,7 @@ pub record IsPlainDescription (d : Description) (ps : List Packed) : Type 0 wher
   pub objects : Each ObjectIsPlain d.objects
   pub boots : Each BootIsPlain d.boots
   pub scripts : Each ScriptIsPlain d.scripts
+  pub futexes : Each FutexIsPlain d.futexes
 
 entries_plain : {A : Type 0} (k : List ℕ) (g : A → Pairs) (P : A → Type 0) → is_bare_key k ≡ true → ((x : A) → P x → ArePlainLines (pair_lines (g x))) → (xs : List A) → Each P xs → ArePlainLines (section_lines (k, map g xs))
 entries_plain k g P bare plain [] h = tt
@@ -210,6 +220,8 @@ object_apart name true (Details.Stack None) = refl
 object_apart name false (Details.Stack None) = refl
 object_apart name true (Details.Pipe None) = refl
 object_apart name false (Details.Pipe None) = refl
+object_apart name true Details.Timer = refl
+object_apart name false Details.Timer = refl
 object_apart name _ _ = refl
 
 boot_apart : (thread stack script : List ℕ) (priority : ℤ) (domain : List ℕ) (mode : Mode) (pool : Option (List ℕ)) (grants : List (List ℕ)) → are_apart (keys (boot_by thread stack script priority domain mode pool grants)) ≡ true
@@ -218,9 +230,9 @@ boot_apart thread stack script priority domain mode None (t ∷ ts) = refl
 boot_apart thread stack script priority domain mode (Some p) [] = refl
 boot_apart thread stack script priority domain mode (Some p) (t ∷ ts) = refl
 
-top_apart : (mpu : Mpu) (regions : ℤ) (policy : Policy) (rodata : List ℕ) (a b c e f g : List Pairs) → are_apart (keys (top_by mpu regions policy rodata) ++ keys (sections_by a b c e f g)) ≡ true
-top_apart mpu regions policy [] a b c e f g = refl
-top_apart mpu regions policy (x ∷ xs) a b c e f g = refl
+top_apart : (mpu : Mpu) (regions : ℤ) (policy : Policy) (rodata : List ℕ) (a b c e f g k : List Pairs) → are_apart (keys (top_by mpu regions policy rodata) ++ keys (sections_by a b c e f g k)) ≡ true
+top_apart mpu regions policy [] a b c e f g k = refl
+top_apart mpu regions policy (x ∷ xs) a b c e f g k = refl
 
 pub document_plain : (d : Description) (ps : List Packed) → IsPlainDescription d ps → IsPlainDocument (top_of d) (sections_of d ps)
 document_plain d ps h =
@@ -230,6 +242,7 @@ document_plain d ps h =
     let e = map of_object d.objects in
     let f = map of_boot d.boots in
     let g = map of_script d.scripts in
+    let k = map of_futex d.futexes in
     let one = entries_plain (word Key.Pool) of_pool PoolIsPlain refl (λ p k. pool_plain p.name p.size k.0 k.1) d.pools h.pools in
     let two = entries_plain (word Key.Partition) of_partition PartitionIsPlain refl (λ p k. partition_plain p.name p.attr p.variable p.size p.bytes k.0 k.1 k.2 k.3) ps h.partitions in
     let three = entries_plain (word Key.Domain) of_domain DomainIsPlain refl (λ m k. domain_plain m.name m.partitions k.0 k.1) d.domains h.domains in
@@ -237,17 +250,19 @@ document_plain d ps h =
     let five = entries_plain (word Key.Boot) of_boot BootIsPlain refl
     (λ x k. boot_plain x.thread x.stack x.script x.priority x.domain x.mode x.pool x.grants k.thread k.stack k.script k.priority k.domain k.pool k.grants) d.boots h.boots in
     let six = entries_plain (word Key.Script) of_script ScriptIsPlain refl (λ s k. script_plain s.name s.lines k.0 k.1) d.scripts h.scripts in
+    let seven = entries_plain (word Key.Futex) of_futex FutexIsPlain refl (λ x l. futex_plain x.name x.partition x.offset l.0 l.1 l.2) d.futexes h.futexes in
     let l1 = section_lines (word Key.Pool, a) in
     let l2 = section_lines (word Key.Partition, b) in
     let l3 = section_lines (word Key.Domain, c) in
     let l4 = section_lines (word Key.Object, e) in
     let l5 = section_lines (word Key.Boot, f) in
     let l6 = section_lines (word Key.Script, g) in
+    let l7 = section_lines (word Key.Futex, k) in
     record {
-      lines_are = both_lines (pair_lines (top_of d)) (l1 ++ (l2 ++ (l3 ++ (l4 ++ (l5 ++ (l6 ++ [])))))) (top_plain d.mpu d.regions d.policy d.rodata h.regions h.rodata)
-          (both_lines l1 (l2 ++ (l3 ++ (l4 ++ (l5 ++ (l6 ++ []))))) one (both_lines l2 (l3 ++ (l4 ++ (l5 ++ (l6 ++ [])))) two (both_lines l3 (l4 ++ (l5 ++ (l6 ++ []))) three
-          (both_lines l4 (l5 ++ (l6 ++ [])) four (both_lines l5 (l6 ++ []) five (both_lines l6 [] six tt))))));
-      apart = top_apart d.mpu d.regions d.policy d.rodata a b c e f g;
+      lines_are = both_lines (pair_lines (top_of d)) (l1 ++ (l2 ++ (l3 ++ (l4 ++ (l5 ++ (l6 ++ (l7 ++ []))))))) (top_plain d.mpu d.regions d.policy d.rodata h.regions h.rodata)
+          (both_lines l1 (l2 ++ (l3 ++ (l4 ++ (l5 ++ (l6 ++ (l7 ++ [])))))) one (both_lines l2 (l3 ++ (l4 ++ (l5 ++ (l6 ++ (l7 ++ []))))) two (both_lines l3 (l4 ++ (l5 ++ (l6 ++ (l7 ++ [])))) three
+          (both_lines l4 (l5 ++ (l6 ++ (l7 ++ []))) four (both_lines l5 (l6 ++ (l7 ++ [])) five (both_lines l6 (l7 ++ []) six (both_lines l7 [] seven tt)))))));
+      apart = top_apart d.mpu d.regions d.policy d.rodata a b c e f g k;
       entries = (
         apart_by of_pool (λ p. refl) d.pools,
         (
@@ -256,7 +271,7 @@ document_plain d ps h =
             apart_by of_domain (λ m. domain_apart m.name m.partitions) d.domains,
             (
               apart_by of_object (λ o. object_apart o.name o.public o.details) d.objects,
-              (apart_by of_boot (λ x. boot_apart x.thread x.stack x.script x.priority x.domain x.mode x.pool x.grants) d.boots, (apart_by of_script (λ s. refl) d.scripts, tt)),
+              (apart_by of_boot (λ x. boot_apart x.thread x.stack x.script x.priority x.domain x.mode x.pool x.grants) d.boots, (apart_by of_script (λ s. refl) d.scripts, (apart_by of_futex (λ f. refl) d.futexes, tt))),
             ),
           ),
         ),

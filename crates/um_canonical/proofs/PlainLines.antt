@@ -14,14 +14,14 @@ use Rattle.um_base.specs.declared.names.PartRef.{PartRef}
 use Rattle.um_base.specs.declared.names.Ref.{Ref}
 use Rattle.um_base.specs.declared.names.Term.{Term}
 use Rattle.um_base.specs.declared.names.Timeout.{Timeout}
-use Rattle.um_base.specs.Lawful.{is_within, is_name, is_name_byte, is_register, is_size, is_named_attr}
+use Rattle.um_base.specs.Lawful.{is_within, is_name, is_name_byte, is_register, is_size, is_named_attr, is_wait}
 use Rattle.um_document.proofs.EmptyLists.{and_true}
-use Rattle.um_script.specs.Canonical.{Operand, operands_of, mnemonic, canonical, term_text, named_text, part_text, offset_text, with_parts, with_operand, with_operands, options_by, options_word}
+use Rattle.um_script.specs.Canonical.{Operand, operands_of, mnemonic, canonical, term_text, named_text, part_text, timeout_text, offset_text, with_parts, with_operand, with_operands, options_by, options_word}
 use Rattle.um_script.specs.declared.mnemonic.Mnemonic.{Mnemonic}
 use Rattle.um_script.specs.Instructions.{spelling}
 use Rattle.um_script.specs.Numbers.{is_digit}
-use Rattle.um_script.specs.Operands.{Form, Times, Register, Size, AnyTerm, Named, Part, Parts, ObjectKind, Wait, Priority, OptionSet, Value}
-use Rattle.um_vocabulary.specs.Words.{attr_word, kind_word, timeout_word, is_place_name}
+use Rattle.um_script.specs.Operands.{Form, Times, Register, Size, AnyTerm, Named, Part, Parts, ObjectKind, Wait, HowMany, Priority, OptionSet, Value, how_many_word}
+use Rattle.um_vocabulary.specs.Words.{attr_word, kind_word, is_place_name}
 use Rattle.um_script.specs.Writable.{is_word32, is_term, is_named, is_part, is_priority, fits, all_fit, is_line}
 use Rattle.um_script.proofs.DigitsAgain.{list_all-weaker, decimal-spells}
 use Rattle.um_script.proofs.NameAgain.{name_bytes, place_name_bytes, word32-le}
@@ -62,6 +62,9 @@ small_register n h = let le : n < 8 = grind (arith, nat_tests) in omega (arith, 
 
 small_times : (n : ℕ) → IsTrue (is_within 1 1000 n) → n < 2 ^ 64
 small_times n h = let le : n ≤ 1000 = grind (arith, nat_tests) in omega (arith, le)
+
+small_ticks : (n : ℕ) → IsTrue (is_within 1 1000000 n) → n < 2 ^ 64
+small_ticks n h = let le : n ≤ 1000000 = grind (arith, nat_tests) in omega (arith, le)
 
 small_size : (n : ℕ) → IsTrue (is_size n) → n < 2 ^ 64
 small_size n h = let le : n ≤ 4 = grind (arith, nat_tests) in omega (arith, le)
@@ -113,9 +116,15 @@ kind_plain : (k : Kind) → is_plain (kind_word k) ≡ true
 kind_plain Kind.Thread = refl
 kind_plain _ = refl
 
-timeout_plain : (t : Timeout) → is_plain (timeout_word t) ≡ true
-timeout_plain Timeout.NoWait = refl
-timeout_plain Timeout.Forever = refl
+timeout_plain : (t : Timeout) → IsTrue (is_wait t) → is_plain (timeout_text t) ≡ true
+timeout_plain Timeout.NoWait h = refl
+timeout_plain Timeout.Forever h = refl
+timeout_plain (Timeout.Ticks n) h =
+    both_plain (codes "K_TICKS(") (decimal n ++ codes ")") refl (both_plain (decimal n) (codes ")") (number_plain n (small_ticks n h)) refl)
+
+how_many_plain : (all : Bool) → is_plain (how_many_word all) ≡ true
+how_many_plain true = refl
+how_many_plain false = refl
 
 options_plain : (a b c : Bool) → is_plain (options_by a b c) ≡ true
 options_plain true true true = refl
@@ -140,7 +149,8 @@ operand_plain text Named r ok h = behind_space text (named_text r) ok (named_pla
 operand_plain text Part p ok h = behind_space text (part_text p) ok (part_plain p h)
 operand_plain text Parts ps ok h = parts_plain text ps ok (and_true (nat_le (length ps) 4) (list_all is_part ps) h).1
 operand_plain text ObjectKind k ok h = behind_space text (kind_word k) ok (kind_plain k)
-operand_plain text Wait t ok h = behind_space text (timeout_word t) ok (timeout_plain t)
+operand_plain text Wait t ok h = behind_space text (timeout_text t) ok (timeout_plain t h)
+operand_plain text HowMany all ok h = behind_space text (how_many_word all) ok (how_many_plain all)
 operand_plain text Priority z ok h = behind_space text (signed_decimal z) ok (priority_plain z h)
 operand_plain text OptionSet set ok h = behind_space text (options_word set) ok (options_plain set.user set.inherit set.essential)
 
@@ -155,4 +165,5 @@ spelling_plain Mnemonic.End = refl
 spelling_plain _ = refl
 
 pub line_plain : (line : Instr) → IsTrue (is_line line) → is_plain (canonical line) ≡ true
-line_plain line h = operands_plain (spelling (mnemonic line)) (operands_of line) (spelling_plain (mnemonic line)) h
+line_plain line h =
+    operands_plain (spelling (mnemonic line)) (operands_of line) (spelling_plain (mnemonic line)) h

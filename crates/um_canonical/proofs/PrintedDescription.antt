@@ -3,6 +3,7 @@ use Rattle.std.proofs.Common.{◌≡◌, ℕ, ◌+◌, min, false, List, [], ◌
 use Rattle.std.proofs.lemmas.Bool.{true≢false}
 use Rattle.std.specs.List.{list_all}
 use Rattle.um_base.specs.declared.image.DomainDef.{DomainDef}
+use Rattle.um_base.specs.declared.image.Futex.{Futex}
 use Rattle.um_base.specs.declared.image.Image.{Image}
 use Rattle.um_base.specs.declared.image.Pool.{Pool}
 use Rattle.um_base.specs.declared.image.Script.{Script}
@@ -19,10 +20,10 @@ use Rattle.um_document.specs.declared.shape.Key.{Key}
 use Rattle.um_document.specs.declared.shape.Section.{Section}
 use Rattle.um_description.specs.Flaws.{flaws, meaning}
 use Rattle.um_description.specs.Limits.{outside, longer, top_limits, boot_limits}
-use Rattle.um_description.specs.Names.{Text, each, items, pool_names, partition_names, domain_names, object_names, script_names}
+use Rattle.um_description.specs.Names.{Text, each, items, pool_names, partition_names, domain_names, object_names, script_names, futex_names}
 use Rattle.um_description.specs.Numbers.{natural}
 use Rattle.um_description.specs.Packing.{asked_size}
-use Rattle.um_description.specs.Resolve.{partition_sizes, stack_sizes, placed, placed_partitions, domain_of, pool_of, boot_of, script_of, image_of}
+use Rattle.um_description.specs.Resolve.{partition_sizes, stack_sizes, placed, placed_partitions, domain_of, pool_of, boot_of, script_of, futex_of, image_of}
 use Rattle.um_description.specs.Unknown.{unknown_in_domain, unknown_in_boot}
 use Rattle.um_description.proofs.LawfulBoots.{known_boot}
 use Rattle.um_description.proofs.LawfulDistinct.{is_known}
@@ -34,9 +35,10 @@ use Rattle.um_description.proofs.LawfulNames.{all_names, partition_names_again, 
 use Rattle.um_description.proofs.LawfulRanges.{IsIn, inside, natural_in}
 use Rattle.um_canonical.specs.Entries.{Packed, packed_by, domain_entry, boot_entry}
 use Rattle.um_canonical.specs.Fresh.{fresh_names}
-use Rattle.um_canonical.specs.Text.{pools_in, partitions_in, domains_in, objects_in, scripts_in, script_entry, names_by, names_in, packed_in, described_by, described}
+use Rattle.um_canonical.specs.Text.{pools_in, partitions_in, domains_in, objects_in, scripts_in, futexes_in, script_entry, names_by, names_in, packed_in, described_by, described}
 use Rattle.um_canonical.proofs.PrintedEntries.{pools_back, objects_back, domain_back}
-use Rattle.um_canonical.proofs.PrintedMeaning.{variables_for, repacked, reprinted, scripts_again, base_of, means_again}
+use Rattle.um_canonical.proofs.PrintedFutexes.{futexes_back}
+use Rattle.um_canonical.proofs.PrintedMeaning.{variables_for, repacked, reprinted, scripts_again, base_of, entries_known, futexes_lie, means_again}
 use Rattle.um_canonical.proofs.RoundedPartitions.{partitions_back, regranted, boot_back}
 
 -- ---- parts
@@ -87,15 +89,15 @@ described_by_names : (d : Description) → flaws d ≡ [] → described_by (imag
 described_by_names d none =
     let h = no_flaws d none in
     let w = all_within d h.within in
-    let unknown_domains = no_front (each (unknown_in_domain d) 0 d.domains) (each (unknown_in_boot d) 0 d.boots) h.names_known in
-    let unknown_boots = no_back (each (unknown_in_domain d) 0 d.domains) (each (unknown_in_boot d) 0 d.boots) h.names_known in
+    let known = entries_known d h.names_known in
     let regions = regions_are d w.top in
     let pools = pools_back 0 d.pools w.pools in
-    let domains = domains_known d 0 d.domains unknown_domains in
+    let domains = domains_known d 0 d.domains known.domains in
     let objects = objects_back (placed d.mpu STACK_AREA (stack_sizes d)) 0 0 0 d.objects w.objects in
-    let boots = boots_back d 0 d.boots w.boots unknown_boots in
+    let boots = boots_back d 0 d.boots w.boots known.boots in
     let scripts = scripts_back (base_of d) d d.scripts in
-    rw (regions, pools, domains, objects, boots, scripts) refl
+    let futexes = futexes_back d d.futexes (futexes_lie d h.names_known h.within) in
+    rw (regions, pools, domains, objects, boots, scripts, futexes) refl
 
 -- the names of an image are those of its description
 record AreNames (d : Description) : Type 0 where
@@ -104,6 +106,7 @@ record AreNames (d : Description) : Type 0 where
   domains : domains_in (image_of d) ≡ domain_names d
   objects : objects_in (image_of d) ≡ object_names d
   scripts : scripts_in (image_of d) ≡ script_names d
+  futexes : futexes_in (image_of d) ≡ futex_names d
 
 names_are : (d : Description) → AreNames d
 names_are d = record {
@@ -112,17 +115,19 @@ names_are d = record {
   domains = map_map (domain_of (partition_names d)) (λ (m : DomainDef). m.name) d.domains;
   objects = object_names_again (placed d.mpu STACK_AREA (stack_sizes d)) 0 0 d.objects;
   scripts = map_map (script_of (base_of d) d) (λ (s : Script). s.name) d.scripts;
+  futexes = map_map (futex_of (partition_names d)) (λ (f : Futex). f.name) d.futexes;
 }
 
 names_again : (d : Description) → names_in (image_of d) ≡ all_names d
 names_again d =
     let n = names_are d in
     let i = image_of d in
-    ap (λ (ns : List Text). names_by ns (partitions_in i) (domains_in i) (objects_in i) (scripts_in i)) n.pools
-    ∙ ap (λ (ns : List Text). names_by (pool_names d) ns (domains_in i) (objects_in i) (scripts_in i)) n.partitions
-    ∙ ap (λ (ns : List Text). names_by (pool_names d) (partition_names d) ns (objects_in i) (scripts_in i)) n.domains
-    ∙ ap (λ (ns : List Text). names_by (pool_names d) (partition_names d) (domain_names d) ns (scripts_in i)) n.objects
-    ∙ ap (λ (ns : List Text). names_by (pool_names d) (partition_names d) (domain_names d) (object_names d) ns) n.scripts
+    ap (λ (ns : List Text). names_by ns (partitions_in i) (domains_in i) (objects_in i) (scripts_in i) (futexes_in i)) n.pools
+    ∙ ap (λ (ns : List Text). names_by (pool_names d) ns (domains_in i) (objects_in i) (scripts_in i) (futexes_in i)) n.partitions
+    ∙ ap (λ (ns : List Text). names_by (pool_names d) (partition_names d) ns (objects_in i) (scripts_in i) (futexes_in i)) n.domains
+    ∙ ap (λ (ns : List Text). names_by (pool_names d) (partition_names d) (domain_names d) ns (scripts_in i) (futexes_in i)) n.objects
+    ∙ ap (λ (ns : List Text). names_by (pool_names d) (partition_names d) (domain_names d) (object_names d) ns (futexes_in i)) n.scripts
+    ∙ ap (λ (ns : List Text). names_by (pool_names d) (partition_names d) (domain_names d) (object_names d) (script_names d) ns) n.futexes
 
 length_placed : (ranges : List Range) (ps : List PartitionEntry) → length ranges ≡ length ps → length (placed_partitions ranges ps) ≡ length ps
 length_placed [] [] h = refl

@@ -82,6 +82,7 @@ details_back range x t i name public (Details.Stack (Some n)) h =
 details_back range x t i name public (Details.Pipe None) h = refl
 details_back range x t i name public (Details.Pipe (Some n)) h =
     ap (λ (z : ℤ). entry_by name public (Details.Pipe (Some z))) (number_kept Key.Size 1 256 (Place.Field Section.Object i Key.Size) n (omega arith) h)
+details_back range x t i name public Details.Timer h = refl
 
 pub objects_back : (ranges : List Range) (x t i : ℕ) (os : List ObjectEntry) → objects_limits t i os ≡ [] → map object_entry (objects_from ranges x t os) ≡ os
 objects_back ranges x t i [] h = refl

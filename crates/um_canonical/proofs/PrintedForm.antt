@@ -8,6 +8,7 @@ use Rattle.um_document.specs.declared.check.Check.{Check}
 use Rattle.um_document.specs.declared.description.BootEntry.{BootEntry}
 use Rattle.um_document.specs.declared.description.Description.{Description}
 use Rattle.um_document.specs.declared.description.DomainEntry.{DomainEntry}
+use Rattle.um_document.specs.declared.description.FutexEntry.{FutexEntry}
 use Rattle.um_document.specs.declared.description.ObjectEntry.{ObjectEntry}
 use Rattle.um_document.specs.declared.description.PoolEntry.{PoolEntry}
 use Rattle.um_document.specs.declared.description.ScriptEntry.{ScriptEntry}
@@ -18,15 +19,15 @@ use Rattle.um_document.specs.Broken.{is_broken}
 use Rattle.um_document.specs.Faults.{version_faults, fault_of, broken_parts, unknown_key_faults, form_faults}
 use Rattle.um_document.specs.Parts.{Part, value_at, items_in, key_parts, entries_parts, top_parts, entry_sections, parts}
 use Rattle.um_document.specs.Places.{place_text}
-use Rattle.um_document.specs.Reading.{entries_of, pool_of, partition_of, domain_of, object_of, boot_of, script_of, bytes_at, description_of}
+use Rattle.um_document.specs.Reading.{entries_of, pool_of, partition_of, domain_of, object_of, boot_of, script_of, futex_of, bytes_at, description_of}
 use Rattle.um_document.specs.Shape.{section_key}
 use Rattle.um_document.specs.Unknown.{strays_of_entry, strays_of_entries, strays_of_section, strays_of_sections}
 use Rattle.um_vocabulary.proofs.Again.{mpu_again, policy_again}
 use Rattle.um_canonical.specs.Printed.{Pairs, table_of, tables_of, document_table}
 use Rattle.um_canonical.specs.Entries.{Packed, partition_entry}
-use Rattle.um_canonical.specs.Text.{of_pool, of_partition, of_domain, of_object, of_boot, of_script, top_of, sections_of}
+use Rattle.um_canonical.specs.Text.{of_pool, of_partition, of_domain, of_object, of_boot, of_script, of_futex, top_of, sections_of}
 use Rattle.um_canonical.proofs.PrintedObjects.{passes, AreSound, again_by, sound_by, known_by}
-use Rattle.um_canonical.proofs.PrintedSections.{is_byte, decoded_again, pool_again, pool_sound, pool_known, partition_again, partition_sound, partition_known, domain_again, domain_sound, domain_known, script_again, script_sound, script_known, boot_again, boot_sound, boot_known}
+use Rattle.um_canonical.proofs.PrintedSections.{is_byte, decoded_again, pool_again, pool_sound, pool_known, partition_again, partition_sound, partition_known, domain_again, domain_sound, domain_known, script_again, script_sound, script_known, boot_again, boot_sound, boot_known, futex_again, futex_sound, futex_known}
 use Rattle.um_canonical.proofs.PrintedTop.{packed_sections, AreValues, values_by, bytes_value, given_value, items_given, top_pass, entries_pass, no_stray_at_top}
 
 -- the table of a description whose partitions are printed so
@@ -53,6 +54,9 @@ boot_is b = true
 abbrev pub script_is : ScriptEntry → Bool
 script_is s = is_name s.name
 
+abbrev pub futex_is : FutexEntry → Bool
+futex_is f = is_name f.name
+
 pub record IsFormed (d : Description) (ps : List Packed) : Type 0 where
   pub rodata : list_all is_byte d.rodata ≡ true
   pub pools : list_all pool_is d.pools ≡ true
@@ -61,6 +65,7 @@ pub record IsFormed (d : Description) (ps : List Packed) : Type 0 where
   pub objects : list_all object_is d.objects ≡ true
   pub boots : list_all boot_is d.boots ≡ true
   pub scripts : list_all script_is d.scripts ≡ true
+  pub futexes : list_all futex_is d.futexes ≡ true
 
 -- ---- any section
 
@@ -127,6 +132,7 @@ record AllSound (d : Description) (ps : List Packed) : Type 0 where
   objects : AreSound Section.Object 0 (entries_parts Section.Object 0 (tables_of (map of_object d.objects)))
   boots : AreSound Section.Boot 0 (entries_parts Section.Boot 0 (tables_of (map of_boot d.boots)))
   scripts : AreSound Section.Script 0 (entries_parts Section.Script 0 (tables_of (map of_script d.scripts)))
+  futexes : AreSound Section.Futex 0 (entries_parts Section.Futex 0 (tables_of (map of_futex d.futexes)))
 
 sound : (d : Description) (ps : List Packed) → IsFormed d ps → AllSound d ps
 sound d ps h = record {
@@ -136,10 +142,11 @@ sound d ps h = record {
   objects = all_sound Section.Object of_object object_is (λ i o k. sound_by i o.name o.public o.details k) 0 d.objects h.objects;
   boots = all_sound Section.Boot of_boot boot_is (λ i b k. boot_sound i b.thread b.stack b.script b.priority b.domain b.mode b.pool b.grants) 0 d.boots h.boots;
   scripts = all_sound Section.Script of_script script_is (λ i s k. script_sound i s.name s.lines k) 0 d.scripts h.scripts;
+  futexes = all_sound Section.Futex of_futex futex_is (λ i f k. futex_sound i f.name f.partition f.offset k) 0 d.futexes h.futexes;
 }
 
-values : (d : Description) (ps : List Packed) → AreValues (table_for d ps) d.mpu d.regions d.policy d.rodata (map of_pool d.pools) (map of_partition ps) (map of_domain d.domains) (map of_object d.objects) (map of_boot d.boots) (map of_script d.scripts)
-values d ps = values_by d.mpu d.regions d.policy d.rodata (map of_pool d.pools) (map of_partition ps) (map of_domain d.domains) (map of_object d.objects) (map of_boot d.boots) (map of_script d.scripts)
+values : (d : Description) (ps : List Packed) → AreValues (table_for d ps) d.mpu d.regions d.policy d.rodata (map of_pool d.pools) (map of_partition ps) (map of_domain d.domains) (map of_object d.objects) (map of_boot d.boots) (map of_script d.scripts) (map of_futex d.futexes)
+values d ps = values_by d.mpu d.regions d.policy d.rodata (map of_pool d.pools) (map of_partition ps) (map of_domain d.domains) (map of_object d.objects) (map of_boot d.boots) (map of_script d.scripts) (map of_futex d.futexes)
 
 at_check : {s : Section} {i : ℕ} {ps : List Part} (check : Check) → AreSound s i ps → passes check ps ≡ true
 at_check Check.Missing h = h.missing
@@ -151,8 +158,8 @@ pass_all check d ps h =
     let t = table_for d ps in
     let v = values d ps in
     let s = sound d ps h in
-    joined_pass check (top_parts t) (entry_sections t) (top_pass check t d.mpu d.regions d.policy d.rodata (map of_pool d.pools) (map of_partition ps) (map of_domain d.domains) (map of_object d.objects) (map of_boot d.boots) (map of_script d.scripts) v h.rodata)
-    (entries_pass check t d.mpu d.regions d.policy d.rodata (map of_pool d.pools) (map of_partition ps) (map of_domain d.domains) (map of_object d.objects) (map of_boot d.boots) (map of_script d.scripts) v (at_check check s.pools) (at_check check s.partitions) (at_check check s.domains) (at_check check s.objects) (at_check check s.boots) (at_check check s.scripts))
+    joined_pass check (top_parts t) (entry_sections t) (top_pass check t d.mpu d.regions d.policy d.rodata (map of_pool d.pools) (map of_partition ps) (map of_domain d.domains) (map of_object d.objects) (map of_boot d.boots) (map of_script d.scripts) (map of_futex d.futexes) v h.rodata)
+    (entries_pass check t d.mpu d.regions d.policy d.rodata (map of_pool d.pools) (map of_partition ps) (map of_domain d.domains) (map of_object d.objects) (map of_boot d.boots) (map of_script d.scripts) (map of_futex d.futexes) v (at_check check s.pools) (at_check check s.partitions) (at_check check s.domains) (at_check check s.objects) (at_check check s.boots) (at_check check s.scripts) (at_check check s.futexes))
 
 section_strays : (s : Section) (t : Members) (es : List Pairs) → value_at (section_key s) t ≡ given_value es → strays_of_entries s 0 (tables_of es) ≡ [] → strays_of_section t s ≡ []
 section_strays s t es is h = ap (λ (o : Option Data). strays_of_entries s 0 (items_in o)) is ∙ ap (strays_of_entries s 0) (items_given es) ∙ h
@@ -168,12 +175,13 @@ no_strays d ps =
     let s3 = section_strays Section.Object t (map of_object d.objects) v.objects_are (all_keys_known Section.Object of_object (λ i p. known_by i p.name p.public p.details) 0 d.objects) in
     let s4 = section_strays Section.Boot t (map of_boot d.boots) v.boots_are (all_keys_known Section.Boot of_boot (λ i p. boot_known i p.thread p.stack p.script p.priority p.domain p.mode p.pool p.grants) 0 d.boots) in
     let s5 = section_strays Section.Script t (map of_script d.scripts) v.scripts_are (all_keys_known Section.Script of_script (λ i p. script_known i p.name p.lines) 0 d.scripts) in
-    ap (λ (ss : List Section). flat_map (strays_of_section t) ss) (packed_sections t v.version) ∙ rw (s0, s1, s2, s3, s4, s5) refl
+    let s6 = section_strays Section.Futex t (map of_futex d.futexes) v.futexes_are (all_keys_known Section.Futex of_futex (λ i p. futex_known i p.name p.partition p.offset) 0 d.futexes) in
+    ap (λ (ss : List Section). flat_map (strays_of_section t) ss) (packed_sections t v.version) ∙ rw (s0, s1, s2, s3, s4, s5, s6) refl
 
 no_unknown : (d : Description) (ps : List Packed) → unknown_key_faults (table_for d ps) ≡ []
 unfolding unknown_key_faults
 no_unknown d ps =
-    let top = no_stray_at_top d.mpu d.regions d.policy d.rodata (map of_pool d.pools) (map of_partition ps) (map of_domain d.domains) (map of_object d.objects) (map of_boot d.boots) (map of_script d.scripts) in
+    let top = no_stray_at_top d.mpu d.regions d.policy d.rodata (map of_pool d.pools) (map of_partition ps) (map of_domain d.domains) (map of_object d.objects) (map of_boot d.boots) (map of_script d.scripts) (map of_futex d.futexes) in
     ap (λ (xs : List (List ℕ)). map fault.UnknownKey xs) (ap (λ (xs : List (List ℕ)). xs ++ strays_of_sections (table_for d ps)) top ∙ no_strays d ps)
 
 known_version : (d : Description) (ps : List Packed) → version_faults (table_for d ps) ≡ []
@@ -221,4 +229,5 @@ description_again d ps h =
     let boots = section_back Section.Boot boot_of t (map of_boot d.boots) d.boots v.boots_are
     (all_again boot_of of_boot boot_is (λ b k. boot_again b.thread b.stack b.script b.priority b.domain b.mode b.pool b.grants) d.boots h.boots) in
     let scripts = section_back Section.Script script_of t (map of_script d.scripts) d.scripts v.scripts_are (all_again script_of of_script script_is (λ s k. script_again s.name s.lines k) d.scripts h.scripts) in
-    rw (mpu, mpu_again d.mpu, regions, policy, policy_again d.policy, rodata, pools, partitions, domains, objects, boots, scripts) refl
+    let futexes = section_back Section.Futex futex_of t (map of_futex d.futexes) d.futexes v.futexes_are (all_again futex_of of_futex futex_is (λ f k. futex_again f.name f.partition f.offset k) d.futexes h.futexes) in
+    rw (mpu, mpu_again d.mpu, regions, policy, policy_again d.policy, rodata, pools, partitions, domains, objects, boots, scripts, futexes) refl

@@ -8,7 +8,7 @@ use Rattle.um_base.specs.declared.instr.Instr.{Instr}
 use Rattle.um_base.specs.declared.names.PartRef.{PartRef}
 use Rattle.um_base.specs.declared.names.Ref.{Ref}
 use Rattle.um_base.specs.declared.names.Term.{Term}
-use Rattle.um_base.specs.Lawful.{is_within, is_register, is_size, is_dynamic_kind}
+use Rattle.um_base.specs.Lawful.{is_within, is_register, is_size, is_dynamic_kind, is_wait}
 use Rattle.um_document.specs.declared.description.Description.{Description}
 use Rattle.um_document.proofs.EmptyLists.{and_true}
 use Rattle.um_script.specs.Canonical.{canonical}
@@ -192,9 +192,9 @@ line_shown image e d alike (Instr.SemInit object count limit) h known =
     let p2 = and_true (is_term limit) true p1.1 in
     record { writable = rw (term_word image d object p0.0, term_word image d count p1.0, term_word image d limit p2.0) refl; again = rw (term_twice image e d object, term_twice image e d count, term_twice image e d limit) refl; bracket = refl; script = refl; known = rw (silent image d object 1, silent image d count 2, silent image d limit 3) refl }
 line_shown image e d alike (Instr.SemTake object timeout) h known =
-    let p0 = and_true (is_term object) (true && true) h in
-    let p1 = and_true (true) true p0.1 in
-    record { writable = rw (term_word image d object p0.0) refl; again = rw (term_twice image e d object) refl; bracket = refl; script = refl; known = rw (silent image d object 1) refl }
+    let p0 = and_true (is_term object) (is_wait timeout && true) h in
+    let p1 = and_true (is_wait timeout) true p0.1 in
+    record { writable = rw (term_word image d object p0.0, p1.0) refl; again = rw (term_twice image e d object) refl; bracket = refl; script = refl; known = rw (silent image d object 1) refl }
 line_shown image e d alike (Instr.SemGive object) h known =
     let p0 = and_true (is_term object) true h in
     record { writable = rw (term_word image d object p0.0) refl; again = rw (term_twice image e d object) refl; bracket = refl; script = refl; known = rw (silent image d object 1) refl }
@@ -209,9 +209,9 @@ line_shown image e d alike (Instr.MutexInit object) h known =
     let p0 = and_true (is_term object) true h in
     record { writable = rw (term_word image d object p0.0) refl; again = rw (term_twice image e d object) refl; bracket = refl; script = refl; known = rw (silent image d object 1) refl }
 line_shown image e d alike (Instr.MutexLock object timeout) h known =
-    let p0 = and_true (is_term object) (true && true) h in
-    let p1 = and_true (true) true p0.1 in
-    record { writable = rw (term_word image d object p0.0) refl; again = rw (term_twice image e d object) refl; bracket = refl; script = refl; known = rw (silent image d object 1) refl }
+    let p0 = and_true (is_term object) (is_wait timeout && true) h in
+    let p1 = and_true (is_wait timeout) true p0.1 in
+    record { writable = rw (term_word image d object p0.0, p1.0) refl; again = rw (term_twice image e d object) refl; bracket = refl; script = refl; known = rw (silent image d object 1) refl }
 line_shown image e d alike (Instr.MutexUnlock object) h known =
     let p0 = and_true (is_term object) true h in
     record { writable = rw (term_word image d object p0.0) refl; again = rw (term_twice image e d object) refl; bracket = refl; script = refl; known = rw (silent image d object 1) refl }
@@ -221,15 +221,15 @@ line_shown image e d alike (Instr.MsgqInit object msg_size max_msgs) h known =
     let p2 = and_true (is_term max_msgs) true p1.1 in
     record { writable = rw (term_word image d object p0.0, term_word image d msg_size p1.0, term_word image d max_msgs p2.0) refl; again = rw (term_twice image e d object, term_twice image e d msg_size, term_twice image e d max_msgs) refl; bracket = refl; script = refl; known = rw (silent image d object 1, silent image d msg_size 2, silent image d max_msgs 3) refl }
 line_shown image e d alike (Instr.MsgqPut object addr timeout) h known =
-    let p0 = and_true (is_term object) (is_term addr && (true && true)) h in
-    let p1 = and_true (is_term addr) (true && true) p0.1 in
-    let p2 = and_true (true) true p1.1 in
-    record { writable = rw (term_word image d object p0.0, term_word image d addr p1.0) refl; again = rw (term_twice image e d object, term_twice image e d addr) refl; bracket = refl; script = refl; known = rw (silent image d object 1, silent image d addr 2) refl }
+    let p0 = and_true (is_term object) (is_term addr && (is_wait timeout && true)) h in
+    let p1 = and_true (is_term addr) (is_wait timeout && true) p0.1 in
+    let p2 = and_true (is_wait timeout) true p1.1 in
+    record { writable = rw (term_word image d object p0.0, term_word image d addr p1.0, p2.0) refl; again = rw (term_twice image e d object, term_twice image e d addr) refl; bracket = refl; script = refl; known = rw (silent image d object 1, silent image d addr 2) refl }
 line_shown image e d alike (Instr.MsgqGet object addr timeout) h known =
-    let p0 = and_true (is_term object) (is_term addr && (true && true)) h in
-    let p1 = and_true (is_term addr) (true && true) p0.1 in
-    let p2 = and_true (true) true p1.1 in
-    record { writable = rw (term_word image d object p0.0, term_word image d addr p1.0) refl; again = rw (term_twice image e d object, term_twice image e d addr) refl; bracket = refl; script = refl; known = rw (silent image d object 1, silent image d addr 2) refl }
+    let p0 = and_true (is_term object) (is_term addr && (is_wait timeout && true)) h in
+    let p1 = and_true (is_term addr) (is_wait timeout && true) p0.1 in
+    let p2 = and_true (is_wait timeout) true p1.1 in
+    record { writable = rw (term_word image d object p0.0, term_word image d addr p1.0, p2.0) refl; again = rw (term_twice image e d object, term_twice image e d addr) refl; bracket = refl; script = refl; known = rw (silent image d object 1, silent image d addr 2) refl }
 line_shown image e d alike (Instr.MsgqPeek object addr) h known =
     let p0 = and_true (is_term object) (is_term addr && true) h in
     let p1 = and_true (is_term addr) true p0.1 in
@@ -250,32 +250,68 @@ line_shown image e d alike (Instr.StackPush object value) h known =
     let p1 = and_true (is_term value) true p0.1 in
     record { writable = rw (term_word image d object p0.0, term_word image d value p1.0) refl; again = rw (term_twice image e d object, term_twice image e d value) refl; bracket = refl; script = refl; known = rw (silent image d object 1, silent image d value 2) refl }
 line_shown image e d alike (Instr.StackPop object addr timeout) h known =
-    let p0 = and_true (is_term object) (is_term addr && (true && true)) h in
-    let p1 = and_true (is_term addr) (true && true) p0.1 in
-    let p2 = and_true (true) true p1.1 in
-    record { writable = rw (term_word image d object p0.0, term_word image d addr p1.0) refl; again = rw (term_twice image e d object, term_twice image e d addr) refl; bracket = refl; script = refl; known = rw (silent image d object 1, silent image d addr 2) refl }
+    let p0 = and_true (is_term object) (is_term addr && (is_wait timeout && true)) h in
+    let p1 = and_true (is_term addr) (is_wait timeout && true) p0.1 in
+    let p2 = and_true (is_wait timeout) true p1.1 in
+    record { writable = rw (term_word image d object p0.0, term_word image d addr p1.0, p2.0) refl; again = rw (term_twice image e d object, term_twice image e d addr) refl; bracket = refl; script = refl; known = rw (silent image d object 1, silent image d addr 2) refl }
 line_shown image e d alike (Instr.PipeInit object size) h known =
     let p0 = and_true (is_term object) (is_term size && true) h in
     let p1 = and_true (is_term size) true p0.1 in
     record { writable = rw (term_word image d object p0.0, term_word image d size p1.0) refl; again = rw (term_twice image e d object, term_twice image e d size) refl; bracket = refl; script = refl; known = rw (silent image d object 1, silent image d size 2) refl }
 line_shown image e d alike (Instr.PipeWrite object addr length timeout) h known =
-    let p0 = and_true (is_term object) (is_term addr && (is_term length && (true && true))) h in
-    let p1 = and_true (is_term addr) (is_term length && (true && true)) p0.1 in
-    let p2 = and_true (is_term length) (true && true) p1.1 in
-    let p3 = and_true (true) true p2.1 in
-    record { writable = rw (term_word image d object p0.0, term_word image d addr p1.0, term_word image d length p2.0) refl; again = rw (term_twice image e d object, term_twice image e d addr, term_twice image e d length) refl; bracket = refl; script = refl; known = rw (silent image d object 1, silent image d addr 2, silent image d length 3) refl }
+    let p0 = and_true (is_term object) (is_term addr && (is_term length && (is_wait timeout && true))) h in
+    let p1 = and_true (is_term addr) (is_term length && (is_wait timeout && true)) p0.1 in
+    let p2 = and_true (is_term length) (is_wait timeout && true) p1.1 in
+    let p3 = and_true (is_wait timeout) true p2.1 in
+    record { writable = rw (term_word image d object p0.0, term_word image d addr p1.0, term_word image d length p2.0, p3.0) refl; again = rw (term_twice image e d object, term_twice image e d addr, term_twice image e d length) refl; bracket = refl; script = refl; known = rw (silent image d object 1, silent image d addr 2, silent image d length 3) refl }
 line_shown image e d alike (Instr.PipeRead object addr length timeout) h known =
-    let p0 = and_true (is_term object) (is_term addr && (is_term length && (true && true))) h in
-    let p1 = and_true (is_term addr) (is_term length && (true && true)) p0.1 in
-    let p2 = and_true (is_term length) (true && true) p1.1 in
-    let p3 = and_true (true) true p2.1 in
-    record { writable = rw (term_word image d object p0.0, term_word image d addr p1.0, term_word image d length p2.0) refl; again = rw (term_twice image e d object, term_twice image e d addr, term_twice image e d length) refl; bracket = refl; script = refl; known = rw (silent image d object 1, silent image d addr 2, silent image d length 3) refl }
+    let p0 = and_true (is_term object) (is_term addr && (is_term length && (is_wait timeout && true))) h in
+    let p1 = and_true (is_term addr) (is_term length && (is_wait timeout && true)) p0.1 in
+    let p2 = and_true (is_term length) (is_wait timeout && true) p1.1 in
+    let p3 = and_true (is_wait timeout) true p2.1 in
+    record { writable = rw (term_word image d object p0.0, term_word image d addr p1.0, term_word image d length p2.0, p3.0) refl; again = rw (term_twice image e d object, term_twice image e d addr, term_twice image e d length) refl; bracket = refl; script = refl; known = rw (silent image d object 1, silent image d addr 2, silent image d length 3) refl }
 line_shown image e d alike (Instr.PipeReset object) h known =
     let p0 = and_true (is_term object) true h in
     record { writable = rw (term_word image d object p0.0) refl; again = rw (term_twice image e d object) refl; bracket = refl; script = refl; known = rw (silent image d object 1) refl }
 line_shown image e d alike (Instr.PipeClose object) h known =
     let p0 = and_true (is_term object) true h in
     record { writable = rw (term_word image d object p0.0) refl; again = rw (term_twice image e d object) refl; bracket = refl; script = refl; known = rw (silent image d object 1) refl }
+line_shown image e d alike (Instr.TimerStart object ticks) h known =
+    let p0 = and_true (is_term object) (is_term ticks && true) h in
+    let p1 = and_true (is_term ticks) true p0.1 in
+    record { writable = rw (term_word image d object p0.0, term_word image d ticks p1.0) refl; again = rw (term_twice image e d object, term_twice image e d ticks) refl; bracket = refl; script = refl; known = rw (silent image d object 1, silent image d ticks 2) refl }
+line_shown image e d alike (Instr.TimerStop object) h known =
+    let p0 = and_true (is_term object) true h in
+    record { writable = rw (term_word image d object p0.0) refl; again = rw (term_twice image e d object) refl; bracket = refl; script = refl; known = rw (silent image d object 1) refl }
+line_shown image e d alike (Instr.TimerStatus object to) h known =
+    let p0 = and_true (is_term object) (is_register to && true) h in
+    let p1 = and_true (is_register to) true p0.1 in
+    record { writable = rw (term_word image d object p0.0, p1.0) refl; again = rw (term_twice image e d object) refl; bracket = refl; script = refl; known = rw (silent image d object 1) refl }
+line_shown image e d alike (Instr.TimerSync object to) h known =
+    let p0 = and_true (is_term object) (is_register to && true) h in
+    let p1 = and_true (is_register to) true p0.1 in
+    record { writable = rw (term_word image d object p0.0, p1.0) refl; again = rw (term_twice image e d object) refl; bracket = refl; script = refl; known = rw (silent image d object 1) refl }
+line_shown image e d alike (Instr.Abort thread) h known =
+    let p0 = and_true (is_term thread) true h in
+    record { writable = rw (term_word image d thread p0.0) refl; again = rw (term_twice image e d thread) refl; bracket = refl; script = refl; known = rw (silent image d thread 1) refl }
+line_shown image e d alike (Instr.Join thread timeout) h known =
+    let p0 = and_true (is_term thread) (is_wait timeout && true) h in
+    let p1 = and_true (is_wait timeout) true p0.1 in
+    record { writable = rw (term_word image d thread p0.0, p1.0) refl; again = rw (term_twice image e d thread) refl; bracket = refl; script = refl; known = rw (silent image d thread 1) refl }
+line_shown image e d alike (Instr.Suspend thread) h known =
+    let p0 = and_true (is_term thread) true h in
+    record { writable = rw (term_word image d thread p0.0) refl; again = rw (term_twice image e d thread) refl; bracket = refl; script = refl; known = rw (silent image d thread 1) refl }
+line_shown image e d alike (Instr.Continue thread) h known =
+    let p0 = and_true (is_term thread) true h in
+    record { writable = rw (term_word image d thread p0.0) refl; again = rw (term_twice image e d thread) refl; bracket = refl; script = refl; known = rw (silent image d thread 1) refl }
+line_shown image e d alike (Instr.FutexWait addr value timeout) h known =
+    let p0 = and_true (is_term addr) (is_term value && (is_wait timeout && true)) h in
+    let p1 = and_true (is_term value) (is_wait timeout && true) p0.1 in
+    let p2 = and_true (is_wait timeout) true p1.1 in
+    record { writable = rw (term_word image d addr p0.0, term_word image d value p1.0, p2.0) refl; again = rw (term_twice image e d addr, term_twice image e d value) refl; bracket = refl; script = refl; known = rw (silent image d addr 1, silent image d value 2) refl }
+line_shown image e d alike (Instr.FutexWake addr all) h known =
+    let p0 = and_true (is_term addr) true h in
+    record { writable = rw (term_word image d addr p0.0) refl; again = rw (term_twice image e d addr) refl; bracket = refl; script = refl; known = rw (silent image d addr 1) refl }
 
 -- what is printed for a line is read as what was shown
 pub line_again : (image : Image) (e d : Description) → AreNamedAlike e d → (line : Instr) → IsTrue (is_line line) → IsTrue (list_all (knows d) (mentions line))

@@ -8,6 +8,7 @@ use Rattle.um_base.specs.declared.names.Mpu.{Mpu}
 use Rattle.um_document.specs.declared.description.BootEntry.{BootEntry}
 use Rattle.um_document.specs.declared.description.Description.{Description}
 use Rattle.um_document.specs.declared.description.DomainEntry.{DomainEntry}
+use Rattle.um_document.specs.declared.description.FutexEntry.{FutexEntry}
 use Rattle.um_document.specs.declared.description.ObjectEntry.{ObjectEntry}
 use Rattle.um_document.specs.declared.description.PartitionEntry.{PartitionEntry}
 use Rattle.um_document.specs.declared.description.PoolEntry.{PoolEntry}
@@ -21,10 +22,11 @@ use Rattle.um_description.specs.Duplicates.{boots_again, added, duplicates}
 use Rattle.um_description.specs.Flaws.{too_large, image_flaws, flaws, meaning}
 use Rattle.um_description.specs.Limits.{outside, one_too_many, top_limits, partition_limits, boot_limits, script_limits, limits}
 use Rattle.um_description.specs.Lines.{unread_in, unread_lines, broken_blocks, blocks_in, blocks_of, unknown_in, unknown_in_script, script_named, scripts_up_to, is_misordered, misordered_at, misordered_in, misordered_script, if_bad, line_place}
-use Rattle.um_description.specs.Names.{Text, each, is_among, named, items, names_within, pool_names, partition_names, domain_names, object_names, script_names}
+use Rattle.um_description.specs.Names.{Text, each, is_among, named, items, names_within, pool_names, partition_names, domain_names, object_names, script_names, futex_names}
 use Rattle.um_description.specs.Resolve.{partition_sizes, stack_sizes, placed, rows_among, boot_of, without_scripts, script_of, image_of}
-use Rattle.um_description.specs.Unknown.{unless, unknown_in_domain, unknown_besides_grants, unknown_in_boot, unknown_names}
+use Rattle.um_description.specs.Unknown.{unless, unknown_in_domain, unknown_besides_grants, unknown_in_boot, unknown_in_futex, unknown_names}
 use Rattle.um_description.proofs.LawfulDistinct.{is_known, are_new}
+use Rattle.um_description.proofs.LawfulFutexes.{AllLie, all_lie}
 use Rattle.um_description.proofs.LawfulImage.{no_flaws, all_within}
 use Rattle.um_description.proofs.LawfulLines.{known_among}
 use Rattle.um_description.proofs.LawfulLists.{text_itself, length_mapped}
@@ -33,6 +35,7 @@ use Rattle.um_description.proofs.WithoutLimits.{in_limits}
 use Rattle.um_canonical.specs.Entries.{Packed, partition_entry, row_names}
 use Rattle.um_canonical.specs.Fresh.{fresh_names}
 use Rattle.um_canonical.proofs.PrintedEntries.{granted, rows_named, grants_again}
+use Rattle.um_canonical.proofs.PrintedFutexes.{futex_limits_again, futexes_known, no_futexes_again}
 use Rattle.um_canonical.proofs.RoundedPartitions.{repacked_by, entries_by, placed_alike, all_limits_again, sizes_alike, regranted}
 use Rattle.um_canonical.proofs.FreshNames.{variables_free, variables_distinct}
 use Rattle.um_canonical.proofs.NamedAlike.{AreNamedAlike}
@@ -114,7 +117,9 @@ few_names d h =
     let l2 = length-append (pool_names d ++ partition_names d) (domain_names d) in
     let l3 = length-append (pool_names d ++ partition_names d ++ domain_names d) (object_names d) in
     let l4 = length-append (pool_names d ++ partition_names d ++ domain_names d ++ object_names d) (script_names d) in
-    omega (arith, is.pools, is.partitions, is.domains, is.objects, is.scripts, a, b, c, e, f, l1, l2, l3, l4)
+    let g = length_mapped (λ (x : FutexEntry). x.name) d.futexes in
+    let l5 = length-append (pool_names d ++ partition_names d ++ domain_names d ++ object_names d ++ script_names d) (futex_names d) in
+    omega (arith, is.pools, is.partitions, is.domains, is.objects, is.scripts, is.futexes, a, b, c, e, f, g, l1, l2, l3, l4, l5)
 
 no_duplicates_again : (d : Description) → duplicates d ≡ [] → limits d ≡ [] → duplicates (reprinted d) ≡ []
 no_duplicates_again d none within =
@@ -127,16 +132,18 @@ no_duplicates_again d none within =
     let new = all_new d vars h (variables_free taken count) (variables_distinct taken count small) in
     let weave = within_woven d.mpu vars d.partitions (as_many taken count small) in
     let w = names_within (reprinted d).partitions in
-    let rest = domain_names d ++ (object_names d ++ script_names d) in
+    let rest = domain_names d ++ (object_names d ++ (script_names d ++ futex_names d)) in
     let all : are_new [] (pool_names d ++ (w ++ rest)) ≡ true = rw weave new in
     let b1 = added [] (pool_names d) in
     let b2 = added b1 w in
     let b3 = added b2 (domain_names d) in
     let b4 = added b3 (object_names d) in
+    let b5 = added b4 (script_names d) in
     let s1 = new_split [] (pool_names d) (w ++ rest) all in
     let s2 = new_split b1 w rest s1.1 in
-    let s3 = new_split b2 (domain_names d) (object_names d ++ script_names d) s2.1 in
-    let s4 = new_split b3 (object_names d) (script_names d) s3.1 in
+    let s3 = new_split b2 (domain_names d) (object_names d ++ (script_names d ++ futex_names d)) s2.1 in
+    let s4 = new_split b3 (object_names d) (script_names d ++ futex_names d) s3.1 in
+    let s5 = new_split b4 (script_names d) (futex_names d) s4.1 in
     let scripts = (named_alike d).scripts in
     let boots = boots_alike [] [] 0 (object_names d) d.boots ∙ h.boots in
     rw (
@@ -146,7 +153,8 @@ no_duplicates_again d none within =
       no_names_again b3 Section.Object 0 (object_names d) s4.0,
       boots,
       scripts,
-      no_names_again b4 Section.Script 0 (script_names d) s4.1,
+      no_names_again b4 Section.Script 0 (script_names d) s5.0,
+      no_futexes_again b5 [] 0 d.futexes s5.1 h.spots,
     ) refl
 
 -- ---- names in keys
@@ -193,11 +201,32 @@ boots_known d i [] h = refl
 boots_known d i (b ∷ bs) h =
     rw (boot_known d i b (no_front (unknown_in_boot d i b) (each (unknown_in_boot d) (i + 1) bs) h), boots_known d (i + 1) bs (no_back (unknown_in_boot d i b) (each (unknown_in_boot d) (i + 1) bs) h)) refl
 
+-- no entry names anything that isn't there
+pub record AreKnown (d : Description) : Type 0 where
+  pub domains : each (unknown_in_domain d) 0 d.domains ≡ []
+  pub boots : each (unknown_in_boot d) 0 d.boots ≡ []
+  pub futexes : each (unknown_in_futex d) 0 d.futexes ≡ []
+
+pub entries_known : (d : Description) → unknown_names d ≡ [] → AreKnown d
+entries_known d h =
+    let ms = each (unknown_in_domain d) 0 d.domains in
+    let bs = each (unknown_in_boot d) 0 d.boots in
+    let fs = each (unknown_in_futex d) 0 d.futexes in
+    let front = no_front (ms ++ bs) fs h in
+    record { domains = no_front ms bs front; boots = no_back ms bs front; futexes = no_back (ms ++ bs) fs h }
+
+-- each futex lies in its partition
+pub futexes_lie : (d : Description) → unknown_names d ≡ [] → limits d ≡ [] → AllLie d d.futexes
+futexes_lie d known h = let w = all_within d h in all_lie d 0 d.futexes w.partitions (entries_known d known).futexes w.futexes
+
 names_known : (d : Description) → unknown_names d ≡ [] → unknown_names (reprinted d) ≡ []
 names_known d h =
-    let domains = no_front (each (unknown_in_domain d) 0 d.domains) (each (unknown_in_boot d) 0 d.boots) h in
-    let boots = no_back (each (unknown_in_domain d) 0 d.domains) (each (unknown_in_boot d) 0 d.boots) h in
-    rw (domains_alike (reprinted d) d (named_alike d) 0 d.domains ∙ domains, boots_known d 0 d.boots boots) refl
+    let own = entries_known d h in
+    rw (
+      domains_alike (reprinted d) d (named_alike d) 0 d.domains ∙ own.domains,
+      boots_known d 0 d.boots own.boots,
+      futexes_known (reprinted d) d (named_alike d).partitions 0 d.futexes ∙ own.futexes,
+    ) refl
 
 -- ---- limits
 
@@ -309,10 +338,19 @@ top_alike : (d : Description) → top_limits (reprinted d) ≡ top_limits d
 unfolding top_limits
 top_alike d = refl
 
-within : (d : Description) → limits d ≡ [] → AreKept d 0 d.scripts → limits (reprinted d) ≡ []
-within d h kept =
+within : (d : Description) → unknown_names d ≡ [] → limits d ≡ [] → AreKept d 0 d.scripts → limits (reprinted d) ≡ []
+within d known h kept =
     let is = all_within d h in
-    rw (top_alike d ∙ is.top, is.pools, all_limits_again d.mpu (variables_for d) 0 d.partitions is.partitions, is.domains, is.objects, boot_limits_alike 0 (object_names d) d.boots ∙ is.boots, kept.limits ∙ is.scripts) refl
+    rw (
+      top_alike d ∙ is.top,
+      is.pools,
+      all_limits_again d.mpu (variables_for d) 0 d.partitions is.partitions,
+      is.domains,
+      is.objects,
+      boot_limits_alike 0 (object_names d) d.boots ∙ is.boots,
+      kept.limits ∙ is.scripts,
+      futex_limits_again d (variables_for d) 0 d.futexes is.partitions (futexes_lie d known h) is.futexes,
+    ) refl
 
 abbrev heavy : Image → List Flaw
 heavy image = if nat_lt MOST_WEIGHT (weight image) then Flaw.Weight ∷ [] else []
@@ -326,7 +364,7 @@ no_flaws_again d h =
     let image = image_again d is.partitions kept in
     let a = no_duplicates_again d none.names_new none.within in
     let b = names_known d none.names_known in
-    let c = within d none.within kept in
+    let c = within d none.names_known none.within kept in
     let f = kept.known in
     let g = misordered_scripts_alike d 0 (scripts_again (base_of d) d d.scripts) ∙ kept.order ∙ none.order in
     let last : image_flaws (reprinted d) ≡ [] =

@@ -1,5 +1,5 @@
 -- Printed objects are read back as the same entries, without a fault of their form.
-use Rattle.std.proofs.Common.{◌≡◌, ℕ, ◌+◌, Bool, true, false, not, ◌&&◌, nat_le, List, [], ◌∷◌, ◌++◌, map, length, codes, bytes_eq, Some, None, refl, ◌∙◌}
+use Rattle.std.proofs.Common.{◌≡◌, ℕ, ◌+◌, Bool, true, false, not, ◌&&◌, nat_le, List, [], ◌∷◌, ◌++◌, map, length, codes, bytes_eq, None, refl, ◌∙◌}
 use Rattle.std.proofs.lemmas.Bool.{and_parts}
 use Rattle.std.proofs.lemmas.List.Folds.{list_all-append}
 use Rattle.std.specs.List.{list_all}
@@ -46,6 +46,8 @@ again_by name true (Details.Stack None) h = rw (short_name name h) refl
 again_by name false (Details.Stack None) h = rw (short_name name h) refl
 again_by name true (Details.Pipe None) h = rw (short_name name h) refl
 again_by name false (Details.Pipe None) h = rw (short_name name h) refl
+again_by name true Details.Timer h = rw (short_name name h) refl
+again_by name false Details.Timer h = rw (short_name name h) refl
 again_by name _ _ h = rw (short_name name h) refl
 
 pub sound_by : (i : ℕ) (name : List ℕ) (public : Bool) (details : Details) → is_name name ≡ true → AreSound Section.Object i (key_parts Section.Object i (table_of (pairs_by name public details)))
@@ -62,6 +64,8 @@ sound_by i name true (Details.Stack None) h = record { missing = refl; wrong = r
 sound_by i name false (Details.Stack None) h = record { missing = refl; wrong = refl; bad = rw h refl }
 sound_by i name true (Details.Pipe None) h = record { missing = refl; wrong = refl; bad = rw h refl }
 sound_by i name false (Details.Pipe None) h = record { missing = refl; wrong = refl; bad = rw h refl }
+sound_by i name true Details.Timer h = record { missing = refl; wrong = refl; bad = rw h refl }
+sound_by i name false Details.Timer h = record { missing = refl; wrong = refl; bad = rw h refl }
 sound_by i name _ _ h = record { missing = refl; wrong = refl; bad = rw h refl }
 
 pub known_by : (i : ℕ) (name : List ℕ) (public : Bool) (details : Details) → strays_of_entry Section.Object i (table_of (pairs_by name public details)) ≡ []
@@ -78,6 +82,8 @@ known_by i name true (Details.Stack None) = refl
 known_by i name false (Details.Stack None) = refl
 known_by i name true (Details.Pipe None) = refl
 known_by i name false (Details.Pipe None) = refl
+known_by i name true Details.Timer = refl
+known_by i name false Details.Timer = refl
 known_by i name _ _ = refl
 
 -- ---- all objects

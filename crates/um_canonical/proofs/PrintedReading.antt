@@ -13,6 +13,7 @@ use Rattle.um_document.specs.declared.description.BootEntry.{BootEntry}
 use Rattle.um_document.specs.declared.description.Description.{Description}
 use Rattle.um_document.specs.declared.description.Details.{Details}
 use Rattle.um_document.specs.declared.description.DomainEntry.{DomainEntry}
+use Rattle.um_document.specs.declared.description.FutexEntry.{FutexEntry}
 use Rattle.um_document.specs.declared.description.ObjectEntry.{ObjectEntry}
 use Rattle.um_document.specs.declared.description.PartitionEntry.{PartitionEntry}
 use Rattle.um_document.specs.declared.description.PoolEntry.{PoolEntry}
@@ -36,6 +37,7 @@ use Rattle.um_description.specs.Resolve.{rows_among, image_of}
 use Rattle.um_description.specs.Unknown.{unknown_in_domain, unknown_in_boot}
 use Rattle.um_description.proofs.LawfulDistinct.{is_known}
 use Rattle.um_description.proofs.LawfulDomains.{all_known}
+use Rattle.um_description.proofs.LawfulFutexes.{AllLie}
 use Rattle.um_description.proofs.LawfulImage.{no_flaws, all_within}
 use Rattle.um_description.proofs.LawfulLists.{same_text}
 use Rattle.um_description.proofs.LawfulNames.{all_names}
@@ -51,10 +53,10 @@ use Rattle.um_description.proofs.LawfulBoots.{known_boot}
 use Rattle.um_canonical.proofs.PrintedDescription.{packed_again, described_again}
 use Rattle.um_canonical.proofs.PrintedEntries.{granted, rows_named, natural_count}
 use Rattle.um_canonical.proofs.PrintedForm.{table_for, partition_is, boot_is, script_is, IsFormed, no_form_faults, description_again}
-use Rattle.um_canonical.proofs.PrintedMeaning.{variables_for, repacked, reprinted, named_alike, few_names, base_of, scripts_again}
+use Rattle.um_canonical.proofs.PrintedMeaning.{variables_for, repacked, reprinted, named_alike, few_names, base_of, scripts_again, entries_known, futexes_lie}
 use Rattle.um_canonical.proofs.DistinctNames.{as_many, fresh_lawful}
 use Rattle.um_canonical.proofs.RoundedPartitions.{repacked_by, regranted, sized}
-use Rattle.um_canonical.proofs.PlainDocument.{Fits, Plain, GivenPlain, DetailsFit, PoolPlain, Each, PoolIsPlain, PartitionIsPlain, DomainIsPlain, ObjectIsPlain, BootIsPlain, ScriptIsPlain, IsPlainDescription, pos_fits, negative_fits, document_plain}
+use Rattle.um_canonical.proofs.PlainDocument.{Fits, Plain, GivenPlain, DetailsFit, PoolPlain, Each, PoolIsPlain, PartitionIsPlain, DomainIsPlain, ObjectIsPlain, BootIsPlain, ScriptIsPlain, FutexIsPlain, IsPlainDescription, pos_fits, negative_fits, document_plain}
 use Rattle.um_canonical.proofs.PlainLines.{name_plain}
 use Rattle.um_canonical.proofs.PrintedScripts.{lines_back}
 use Rattle.um_canonical.proofs.PrintedSections.{is_byte}
@@ -172,6 +174,7 @@ formed d words rodata bytes within = record {
   objects = unmapped (λ (o : ObjectEntry). o.name) d.objects words.objects;
   boots = boots_formed (map (regranted (object_names d)) d.boots);
   scripts = scripts_formed (base_of d) d d.scripts words.scripts;
+  futexes = unmapped (λ (f : FutexEntry). f.name) d.futexes words.futexes;
 }
 
 -- ---- numbers that a document can write
@@ -215,6 +218,7 @@ details_fit i (Details.Stack None) h = tt
 details_fit i (Details.Stack (Some n)) h = fits_in Key.Entries 1 64 (Place.Field Section.Object i Key.Entries) n (omega arith) h
 details_fit i (Details.Pipe None) h = tt
 details_fit i (Details.Pipe (Some n)) h = fits_in Key.Size 1 256 (Place.Field Section.Object i Key.Size) n (omega arith) h
+details_fit i Details.Timer h = tt
 
 -- ---- texts are names
 
@@ -329,6 +333,15 @@ scripts_plain d i (s ∷ ss) h k l =
     let back = lines_back (base_of d) (reprinted d) d (named_alike d) i 0 s.lines (no_front (unread_lines i s) (each unread_lines (i + 1) ss) k) (no_front (unknown_in_script d i s) (each (unknown_in_script d) (i + 1) ss) l) in
     ((name_plain s.name both.0, back.plain), scripts_plain d (i + 1) ss both.1 (no_back (unread_lines i s) (each unread_lines (i + 1) ss) k) (no_back (unknown_in_script d i s) (each (unknown_in_script d) (i + 1) ss) l))
 
+futexes_plain : (d : Description) (fs : List FutexEntry) → list_all is_name (map (λ (f : FutexEntry). f.name) fs) ≡ true → list_all is_name (partition_names d) ≡ true → AllLie d fs → Each FutexIsPlain fs
+futexes_plain d [] h k lie = tt
+futexes_plain d (f ∷ fs) h k lie =
+    let both = and_parts (is_name f.name) (list_all is_name (map (λ (f : FutexEntry). f.name) fs)) h in
+    let fits = lie.0.fits in
+    let small = lie.0.at.small in
+    let offset = subst Fits (sym lie.0.is) (pos_fits lie.0.offset (omega (arith, fits, small))) in
+    ((name_plain f.name both.0, known_plain (partition_names d) f.partition k lie.0.known, offset), futexes_plain d fs both.1 k lie.1)
+
 regions_fit : (d : Description) → top_limits d ≡ [] → Fits d.regions
 unfolding top_limits
 regions_fit d h =
@@ -339,17 +352,17 @@ plain : (d : Description) → AreLawfulNames d → list_all is_byte d.rodata ≡
 plain d words rodata bytes none =
     let h = no_flaws d none in
     let w = all_within d h.within in
-    let domains = no_front (each (unknown_in_domain d) 0 d.domains) (each (unknown_in_boot d) 0 d.boots) h.names_known in
-    let boots = no_back (each (unknown_in_domain d) 0 d.domains) (each (unknown_in_boot d) 0 d.boots) h.names_known in
+    let known = entries_known d h.names_known in
     record {
       regions = regions_fit d w.top;
       rodata = rodata;
       pools = pools_plain 0 d.pools words.pools w.pools;
       partitions = partitions_plain d.mpu (variables_for d) 0 d.partitions (names_for d h.within) words.partitions bytes w.partitions;
-      domains = domains_plain d 0 d.domains words.partitions words.domains domains;
+      domains = domains_plain d 0 d.domains words.partitions words.domains known.domains;
       objects = objects_plain 0 0 d.objects words.objects w.objects;
-      boots = boots_plain d 0 d.boots words w.boots boots;
+      boots = boots_plain d 0 d.boots words w.boots known.boots;
       scripts = scripts_plain d 0 d.scripts words.scripts h.read h.known;
+      futexes = futexes_plain d d.futexes words.futexes words.partitions (futexes_lie d h.names_known h.within);
     }
 
 -- ---- the text

@@ -11,12 +11,12 @@ use Rattle.um_document.specs.declared.shape.Key.{Key}
 use Rattle.um_document.specs.declared.shape.Section.{Section}
 use Rattle.um_document.specs.Forms.{is_hex_digit, is_hexadecimal, digit_value, decoded}
 use Rattle.um_document.specs.Parts.{key_parts, variable_keys, item_parts}
-use Rattle.um_document.specs.Reading.{texts_of, pool_of, partition_of, domain_of, boot_of, script_of}
+use Rattle.um_document.specs.Reading.{texts_of, pool_of, partition_of, domain_of, boot_of, script_of, futex_of}
 use Rattle.um_vocabulary.proofs.Again.{given_attr_again}
 use Rattle.um_document.specs.Unknown.{own_strays, strays_below, strays_of_entry}
 use Rattle.um_canonical.specs.Printed.{table_of, texts_items}
 use Rattle.um_canonical.specs.Entries.{partition_entry}
-use Rattle.um_canonical.specs.Sections.{hex_digit, encoded, pool_by, partition_by, domain_by, boot_by, script_by}
+use Rattle.um_canonical.specs.Sections.{hex_digit, encoded, pool_by, partition_by, domain_by, boot_by, script_by, futex_by}
 use Rattle.um_canonical.proofs.PrintedObjects.{passes, AreSound, short_name}
 
 -- ---- bytes
@@ -188,3 +188,16 @@ boot_known i thread stack script priority domain Mode.Supervisor None [] = refl
 boot_known i thread stack script priority domain Mode.Supervisor None (t ∷ ts) = refl
 boot_known i thread stack script priority domain Mode.Supervisor (Some p) [] = refl
 boot_known i thread stack script priority domain Mode.Supervisor (Some p) (t ∷ ts) = refl
+
+-- ---- futexes
+
+pub futex_again : (name partition : List ℕ) (offset : ℤ) → is_name name ≡ true → futex_of (table_of (futex_by name partition offset)) ≡ record { name = name; partition = partition; offset = offset }
+futex_again name partition offset h = rw (short_name name h) refl
+
+pub futex_sound : (i : ℕ) (name partition : List ℕ) (offset : ℤ) → is_name name ≡ true → AreSound Section.Futex i (key_parts Section.Futex i (table_of (futex_by name partition offset)))
+unfolding key_parts
+futex_sound i name partition offset h = record { missing = refl; wrong = refl; bad = rw h refl }
+
+pub futex_known : (i : ℕ) (name partition : List ℕ) (offset : ℤ) → strays_of_entry Section.Futex i (table_of (futex_by name partition offset)) ≡ []
+unfolding own_strays strays_below
+futex_known i name partition offset = refl

@@ -64,7 +64,7 @@ bytes_value (b ∷ bs) = Some (string (encoded (b ∷ bs)))
 abbrev pub given_value : List Pairs → Option Data
 given_value es = or_given true es None
 
-pub record AreValues (t : Members) (mpu : Mpu) (regions : ℤ) (policy : Policy) (rodata : List ℕ) (a b c e f g : List Pairs) : Type 0 where
+pub record AreValues (t : Members) (mpu : Mpu) (regions : ℤ) (policy : Policy) (rodata : List ℕ) (a b c e f g k : List Pairs) : Type 0 where
   pub version : value_at Key.Version t ≡ Some (integer (pos 2))
   pub mpu_is : value_at Key.Mpu t ≡ Some (string (mpu_word mpu))
   pub regions_are : value_at Key.Regions t ≡ Some (integer regions)
@@ -76,12 +76,13 @@ pub record AreValues (t : Members) (mpu : Mpu) (regions : ℤ) (policy : Policy)
   pub objects_are : value_at Key.Object t ≡ given_value e
   pub boots_are : value_at Key.Boot t ≡ given_value f
   pub scripts_are : value_at Key.Script t ≡ given_value g
+  pub futexes_are : value_at Key.Futex t ≡ given_value k
 
-pub values_by : (mpu : Mpu) (regions : ℤ) (policy : Policy) (rodata : List ℕ) (a b c e f g : List Pairs)
-    → AreValues (document_table (top_by mpu regions policy rodata) (sections_by a b c e f g)) mpu regions policy rodata a b c e f g
-values_by mpu regions policy [] a b c e f g =
+pub values_by : (mpu : Mpu) (regions : ℤ) (policy : Policy) (rodata : List ℕ) (a b c e f g k : List Pairs)
+    → AreValues (document_table (top_by mpu regions policy rodata) (sections_by a b c e f g k)) mpu regions policy rodata a b c e f g k
+values_by mpu regions policy [] a b c e f g k =
     let top = top_by mpu regions policy [] in
-    let ss = sections_by a b c e f g in
+    let ss = sections_by a b c e f g k in
     record {
       version = value_found Key.Version top ss;
       mpu_is = value_found Key.Mpu top ss;
@@ -94,10 +95,11 @@ values_by mpu regions policy [] a b c e f g =
       objects_are = value_found Key.Object top ss;
       boots_are = value_found Key.Boot top ss;
       scripts_are = value_found Key.Script top ss;
+      futexes_are = value_found Key.Futex top ss;
     }
-values_by mpu regions policy (x ∷ xs) a b c e f g =
+values_by mpu regions policy (x ∷ xs) a b c e f g k =
     let top = top_by mpu regions policy (x ∷ xs) in
-    let ss = sections_by a b c e f g in
+    let ss = sections_by a b c e f g k in
     record {
       version = value_found Key.Version top ss;
       mpu_is = value_found Key.Mpu top ss;
@@ -110,6 +112,7 @@ values_by mpu regions policy (x ∷ xs) a b c e f g =
       objects_are = value_found Key.Object top ss;
       boots_are = value_found Key.Boot top ss;
       scripts_are = value_found Key.Script top ss;
+      futexes_are = value_found Key.Futex top ss;
     }
 
 pub items_given : (es : List Pairs) → items_in (given_value es) ≡ tables_of es
@@ -161,22 +164,23 @@ cons_pass check p ps h k = rw (h, k) refl
 both_pass : (check : Check) (ps qs : List Part) → passes check ps ≡ true → passes check qs ≡ true → passes check (ps ++ qs) ≡ true
 both_pass check ps qs h k = list_all-append (λ (p : Part). not (is_broken check p)) ps qs ∙ rw (h, k) refl
 
-pub top_pass : (check : Check) (t : Members) (mpu : Mpu) (regions : ℤ) (policy : Policy) (rodata : List ℕ) (a b c e f g : List Pairs) → AreValues t mpu regions policy rodata a b c e f g → list_all is_byte rodata ≡ true
+pub top_pass : (check : Check) (t : Members) (mpu : Mpu) (regions : ℤ) (policy : Policy) (rodata : List ℕ) (a b c e f g k : List Pairs) → AreValues t mpu regions policy rodata a b c e f g k → list_all is_byte rodata ≡ true
     → passes check (top_parts t) ≡ true
 unfolding top_parts
-top_pass check t mpu regions policy rodata a b c e f g v h =
-    cons_pass check (top_part t (required Key.Version Form.Number)) (map (top_part t) (required Key.Mpu (Form.Word Choice.Mpu) ∷ required Key.Regions Form.Number ∷ required Key.Oops (Form.Word Choice.Policy) ∷ optional Key.Rodata Form.Digits ∷ optional Key.Pool Form.Tables ∷ optional Key.Partition Form.Tables ∷ optional Key.Domain Form.Tables ∷ optional Key.Object Form.Tables ∷ optional Key.Boot Form.Tables ∷ optional Key.Script Form.Tables ∷ [])) (ap (λ (o : Option Data). not (breaks check Form.Number true o)) v.version ∙ number_fine check (pos 2))
-    (cons_pass check (top_part t (required Key.Mpu (Form.Word Choice.Mpu))) (map (top_part t) (required Key.Regions Form.Number ∷ required Key.Oops (Form.Word Choice.Policy) ∷ optional Key.Rodata Form.Digits ∷ optional Key.Pool Form.Tables ∷ optional Key.Partition Form.Tables ∷ optional Key.Domain Form.Tables ∷ optional Key.Object Form.Tables ∷ optional Key.Boot Form.Tables ∷ optional Key.Script Form.Tables ∷ [])) (ap (λ (o : Option Data). not (breaks check (Form.Word Choice.Mpu) true o)) v.mpu_is ∙ mpu_fine check mpu)
-    (cons_pass check (top_part t (required Key.Regions Form.Number)) (map (top_part t) (required Key.Oops (Form.Word Choice.Policy) ∷ optional Key.Rodata Form.Digits ∷ optional Key.Pool Form.Tables ∷ optional Key.Partition Form.Tables ∷ optional Key.Domain Form.Tables ∷ optional Key.Object Form.Tables ∷ optional Key.Boot Form.Tables ∷ optional Key.Script Form.Tables ∷ [])) (ap (λ (o : Option Data). not (breaks check Form.Number true o)) v.regions_are ∙ number_fine check regions)
-    (cons_pass check (top_part t (required Key.Oops (Form.Word Choice.Policy))) (map (top_part t) (optional Key.Rodata Form.Digits ∷ optional Key.Pool Form.Tables ∷ optional Key.Partition Form.Tables ∷ optional Key.Domain Form.Tables ∷ optional Key.Object Form.Tables ∷ optional Key.Boot Form.Tables ∷ optional Key.Script Form.Tables ∷ [])) (ap (λ (o : Option Data). not (breaks check (Form.Word Choice.Policy) true o)) v.policy_is ∙ policy_fine check policy)
-    (cons_pass check (top_part t (optional Key.Rodata Form.Digits)) (map (top_part t) (optional Key.Pool Form.Tables ∷ optional Key.Partition Form.Tables ∷ optional Key.Domain Form.Tables ∷ optional Key.Object Form.Tables ∷ optional Key.Boot Form.Tables ∷ optional Key.Script Form.Tables ∷ [])) (ap (λ (o : Option Data). not (breaks check Form.Digits false o)) v.rodata_is ∙ bytes_fine check rodata h)
-    (cons_pass check (top_part t (optional Key.Pool Form.Tables)) (map (top_part t) (optional Key.Partition Form.Tables ∷ optional Key.Domain Form.Tables ∷ optional Key.Object Form.Tables ∷ optional Key.Boot Form.Tables ∷ optional Key.Script Form.Tables ∷ [])) (ap (λ (o : Option Data). not (breaks check Form.Tables false o)) v.pools_are ∙ tables_fine check a)
-    (cons_pass check (top_part t (optional Key.Partition Form.Tables)) (map (top_part t) (optional Key.Domain Form.Tables ∷ optional Key.Object Form.Tables ∷ optional Key.Boot Form.Tables ∷ optional Key.Script Form.Tables ∷ [])) (ap (λ (o : Option Data). not (breaks check Form.Tables false o)) v.partitions_are ∙ tables_fine check b)
-    (cons_pass check (top_part t (optional Key.Domain Form.Tables)) (map (top_part t) (optional Key.Object Form.Tables ∷ optional Key.Boot Form.Tables ∷ optional Key.Script Form.Tables ∷ [])) (ap (λ (o : Option Data). not (breaks check Form.Tables false o)) v.domains_are ∙ tables_fine check c)
-    (cons_pass check (top_part t (optional Key.Object Form.Tables)) (map (top_part t) (optional Key.Boot Form.Tables ∷ optional Key.Script Form.Tables ∷ [])) (ap (λ (o : Option Data). not (breaks check Form.Tables false o)) v.objects_are ∙ tables_fine check e)
-    (cons_pass check (top_part t (optional Key.Boot Form.Tables)) (map (top_part t) (optional Key.Script Form.Tables ∷ [])) (ap (λ (o : Option Data). not (breaks check Form.Tables false o)) v.boots_are ∙ tables_fine check f)
-    (cons_pass check (top_part t (optional Key.Script Form.Tables)) [] (ap (λ (o : Option Data). not (breaks check Form.Tables false o)) v.scripts_are ∙ tables_fine check g)
-    refl))))))))))
+top_pass check t mpu regions policy rodata a b c e f g k v h =
+    cons_pass check (top_part t (required Key.Version Form.Number)) (map (top_part t) (required Key.Mpu (Form.Word Choice.Mpu) ∷ required Key.Regions Form.Number ∷ required Key.Oops (Form.Word Choice.Policy) ∷ optional Key.Rodata Form.Digits ∷ optional Key.Pool Form.Tables ∷ optional Key.Partition Form.Tables ∷ optional Key.Domain Form.Tables ∷ optional Key.Object Form.Tables ∷ optional Key.Boot Form.Tables ∷ optional Key.Script Form.Tables ∷ optional Key.Futex Form.Tables ∷ [])) (ap (λ (o : Option Data). not (breaks check Form.Number true o)) v.version ∙ number_fine check (pos 2))
+    (cons_pass check (top_part t (required Key.Mpu (Form.Word Choice.Mpu))) (map (top_part t) (required Key.Regions Form.Number ∷ required Key.Oops (Form.Word Choice.Policy) ∷ optional Key.Rodata Form.Digits ∷ optional Key.Pool Form.Tables ∷ optional Key.Partition Form.Tables ∷ optional Key.Domain Form.Tables ∷ optional Key.Object Form.Tables ∷ optional Key.Boot Form.Tables ∷ optional Key.Script Form.Tables ∷ optional Key.Futex Form.Tables ∷ [])) (ap (λ (o : Option Data). not (breaks check (Form.Word Choice.Mpu) true o)) v.mpu_is ∙ mpu_fine check mpu)
+    (cons_pass check (top_part t (required Key.Regions Form.Number)) (map (top_part t) (required Key.Oops (Form.Word Choice.Policy) ∷ optional Key.Rodata Form.Digits ∷ optional Key.Pool Form.Tables ∷ optional Key.Partition Form.Tables ∷ optional Key.Domain Form.Tables ∷ optional Key.Object Form.Tables ∷ optional Key.Boot Form.Tables ∷ optional Key.Script Form.Tables ∷ optional Key.Futex Form.Tables ∷ [])) (ap (λ (o : Option Data). not (breaks check Form.Number true o)) v.regions_are ∙ number_fine check regions)
+    (cons_pass check (top_part t (required Key.Oops (Form.Word Choice.Policy))) (map (top_part t) (optional Key.Rodata Form.Digits ∷ optional Key.Pool Form.Tables ∷ optional Key.Partition Form.Tables ∷ optional Key.Domain Form.Tables ∷ optional Key.Object Form.Tables ∷ optional Key.Boot Form.Tables ∷ optional Key.Script Form.Tables ∷ optional Key.Futex Form.Tables ∷ [])) (ap (λ (o : Option Data). not (breaks check (Form.Word Choice.Policy) true o)) v.policy_is ∙ policy_fine check policy)
+    (cons_pass check (top_part t (optional Key.Rodata Form.Digits)) (map (top_part t) (optional Key.Pool Form.Tables ∷ optional Key.Partition Form.Tables ∷ optional Key.Domain Form.Tables ∷ optional Key.Object Form.Tables ∷ optional Key.Boot Form.Tables ∷ optional Key.Script Form.Tables ∷ optional Key.Futex Form.Tables ∷ [])) (ap (λ (o : Option Data). not (breaks check Form.Digits false o)) v.rodata_is ∙ bytes_fine check rodata h)
+    (cons_pass check (top_part t (optional Key.Pool Form.Tables)) (map (top_part t) (optional Key.Partition Form.Tables ∷ optional Key.Domain Form.Tables ∷ optional Key.Object Form.Tables ∷ optional Key.Boot Form.Tables ∷ optional Key.Script Form.Tables ∷ optional Key.Futex Form.Tables ∷ [])) (ap (λ (o : Option Data). not (breaks check Form.Tables false o)) v.pools_are ∙ tables_fine check a)
+    (cons_pass check (top_part t (optional Key.Partition Form.Tables)) (map (top_part t) (optional Key.Domain Form.Tables ∷ optional Key.Object Form.Tables ∷ optional Key.Boot Form.Tables ∷ optional Key.Script Form.Tables ∷ optional Key.Futex Form.Tables ∷ [])) (ap (λ (o : Option Data). not (breaks check Form.Tables false o)) v.partitions_are ∙ tables_fine check b)
+    (cons_pass check (top_part t (optional Key.Domain Form.Tables)) (map (top_part t) (optional Key.Object Form.Tables ∷ optional Key.Boot Form.Tables ∷ optional Key.Script Form.Tables ∷ optional Key.Futex Form.Tables ∷ [])) (ap (λ (o : Option Data). not (breaks check Form.Tables false o)) v.domains_are ∙ tables_fine check c)
+    (cons_pass check (top_part t (optional Key.Object Form.Tables)) (map (top_part t) (optional Key.Boot Form.Tables ∷ optional Key.Script Form.Tables ∷ optional Key.Futex Form.Tables ∷ [])) (ap (λ (o : Option Data). not (breaks check Form.Tables false o)) v.objects_are ∙ tables_fine check e)
+    (cons_pass check (top_part t (optional Key.Boot Form.Tables)) (map (top_part t) (optional Key.Script Form.Tables ∷ optional Key.Futex Form.Tables ∷ [])) (ap (λ (o : Option Data). not (breaks check Form.Tables false o)) v.boots_are ∙ tables_fine check f)
+    (cons_pass check (top_part t (optional Key.Script Form.Tables)) (map (top_part t) (optional Key.Futex Form.Tables ∷ [])) (ap (λ (o : Option Data). not (breaks check Form.Tables false o)) v.scripts_are ∙ tables_fine check g)
+    (cons_pass check (top_part t (optional Key.Futex Form.Tables)) [] (ap (λ (o : Option Data). not (breaks check Form.Tables false o)) v.futexes_are ∙ tables_fine check k)
+    refl)))))))))))
 
 section_pass : (check : Check) (s : Section) (t : Members) (es : List Pairs) → items_in (value_at (section_key s) t) ≡ tables_of es → passes check (entries_parts s 0 (tables_of es)) ≡ true → passes check (section_parts t s) ≡ true
 section_pass check s t es same h = ap (λ (ds : Items). passes check (entries_parts s 0 ds)) same ∙ h
@@ -186,20 +190,21 @@ pub packed_sections : (t : Members) → value_at Key.Version t ≡ Some (integer
 packed_sections t is = ap (λ (o : Option Data). sections_with (partitions_by (is_some_and (λ z. int_eq z (pos 2)) (o >>= as_integer)))) is
 
 -- the sections pass, each by itself
-pub entries_pass : (check : Check) (t : Members) (mpu : Mpu) (regions : ℤ) (policy : Policy) (rodata : List ℕ) (a b c e f g : List Pairs) → AreValues t mpu regions policy rodata a b c e f g
+pub entries_pass : (check : Check) (t : Members) (mpu : Mpu) (regions : ℤ) (policy : Policy) (rodata : List ℕ) (a b c e f g k : List Pairs) → AreValues t mpu regions policy rodata a b c e f g k
     → passes check (entries_parts Section.Pool 0 (tables_of a)) ≡ true → passes check (entries_parts Section.PackedPartition 0 (tables_of b)) ≡ true → passes check (entries_parts Section.Domain 0 (tables_of c)) ≡ true
     → passes check (entries_parts Section.Object 0 (tables_of e)) ≡ true → passes check (entries_parts Section.Boot 0 (tables_of f)) ≡ true → passes check (entries_parts Section.Script 0 (tables_of g)) ≡ true
-    → passes check (entry_sections t) ≡ true
+    → passes check (entries_parts Section.Futex 0 (tables_of k)) ≡ true → passes check (entry_sections t) ≡ true
 unfolding entry_sections
-entries_pass check t mpu regions policy rodata a b c e f g v p1 p2 p3 p4 p5 p6 =
+entries_pass check t mpu regions policy rodata a b c e f g k v p1 p2 p3 p4 p5 p6 p7 =
     let q1 = section_pass check Section.Pool t a (ap items_in v.pools_are ∙ items_given a) p1 in
     let q2 = section_pass check Section.PackedPartition t b (ap items_in v.partitions_are ∙ items_given b) p2 in
     let q3 = section_pass check Section.Domain t c (ap items_in v.domains_are ∙ items_given c) p3 in
     let q4 = section_pass check Section.Object t e (ap items_in v.objects_are ∙ items_given e) p4 in
     let q5 = section_pass check Section.Boot t f (ap items_in v.boots_are ∙ items_given f) p5 in
     let q6 = section_pass check Section.Script t g (ap items_in v.scripts_are ∙ items_given g) p6 in
+    let q7 = section_pass check Section.Futex t k (ap items_in v.futexes_are ∙ items_given k) p7 in
     ap (λ (ss : List Section). passes check (flat_map (section_parts t) ss)) (packed_sections t v.version)
-    ∙ both_pass check (section_parts t Section.Pool) (flat_map (section_parts t) (Section.PackedPartition ∷ Section.Domain ∷ Section.Object ∷ Section.Boot ∷ Section.Script ∷ [])) q1 (both_pass check (section_parts t Section.PackedPartition) (flat_map (section_parts t) (Section.Domain ∷ Section.Object ∷ Section.Boot ∷ Section.Script ∷ [])) q2 (both_pass check (section_parts t Section.Domain) (flat_map (section_parts t) (Section.Object ∷ Section.Boot ∷ Section.Script ∷ [])) q3 (both_pass check (section_parts t Section.Object) (flat_map (section_parts t) (Section.Boot ∷ Section.Script ∷ [])) q4 (both_pass check (section_parts t Section.Boot) (flat_map (section_parts t) (Section.Script ∷ [])) q5 (both_pass check (section_parts t Section.Script) [] q6 (refl))))))
+    ∙ both_pass check (section_parts t Section.Pool) (flat_map (section_parts t) (Section.PackedPartition ∷ Section.Domain ∷ Section.Object ∷ Section.Boot ∷ Section.Script ∷ Section.Futex ∷ [])) q1 (both_pass check (section_parts t Section.PackedPartition) (flat_map (section_parts t) (Section.Domain ∷ Section.Object ∷ Section.Boot ∷ Section.Script ∷ Section.Futex ∷ [])) q2 (both_pass check (section_parts t Section.Domain) (flat_map (section_parts t) (Section.Object ∷ Section.Boot ∷ Section.Script ∷ Section.Futex ∷ [])) q3 (both_pass check (section_parts t Section.Object) (flat_map (section_parts t) (Section.Boot ∷ Section.Script ∷ Section.Futex ∷ [])) q4 (both_pass check (section_parts t Section.Boot) (flat_map (section_parts t) (Section.Script ∷ Section.Futex ∷ [])) q5 (both_pass check (section_parts t Section.Script) (flat_map (section_parts t) (Section.Futex ∷ [])) q6 (both_pass check (section_parts t Section.Futex) [] q7 (refl)))))))
 
 -- ---- no key is unknown
 
@@ -223,12 +228,12 @@ top_keys : (mpu : Mpu) (regions : ℤ) (policy : Policy) (rodata : List ℕ) →
 top_keys mpu regions policy [] = refl
 top_keys mpu regions policy (x ∷ xs) = refl
 
-pub no_stray_at_top : (mpu : Mpu) (regions : ℤ) (policy : Policy) (rodata : List ℕ) (a b c e f g : List Pairs)
-    → strays_at_top (document_table (top_by mpu regions policy rodata) (sections_by a b c e f g)) ≡ []
+pub no_stray_at_top : (mpu : Mpu) (regions : ℤ) (policy : Policy) (rodata : List ℕ) (a b c e f g k : List Pairs)
+    → strays_at_top (document_table (top_by mpu regions policy rodata) (sections_by a b c e f g k)) ≡ []
 unfolding strays_at_top
-no_stray_at_top mpu regions policy rodata a b c e f g =
+no_stray_at_top mpu regions policy rodata a b c e f g k =
     let top = value_pairs (top_by mpu regions policy rodata) in
-    let ss = flat_map section_pairs (sections_by a b c e f g) in
+    let ss = flat_map section_pairs (sections_by a b c e f g k) in
     let all : list_all (λ (p : List ℕ × Data). top_key p.0) ss ≡ true =
-    joined top_key (section_pairs (word Key.Pool, a)) (flat_map section_pairs ((word Key.Partition, b) ∷ (word Key.Domain, c) ∷ (word Key.Object, e) ∷ (word Key.Boot, f) ∷ (word Key.Script, g) ∷ [])) (section_key_known top_key (word Key.Pool) a refl) (joined top_key (section_pairs (word Key.Partition, b)) (flat_map section_pairs ((word Key.Domain, c) ∷ (word Key.Object, e) ∷ (word Key.Boot, f) ∷ (word Key.Script, g) ∷ [])) (section_key_known top_key (word Key.Partition) b refl) (joined top_key (section_pairs (word Key.Domain, c)) (flat_map section_pairs ((word Key.Object, e) ∷ (word Key.Boot, f) ∷ (word Key.Script, g) ∷ [])) (section_key_known top_key (word Key.Domain) c refl) (joined top_key (section_pairs (word Key.Object, e)) (flat_map section_pairs ((word Key.Boot, f) ∷ (word Key.Script, g) ∷ [])) (section_key_known top_key (word Key.Object) e refl) (joined top_key (section_pairs (word Key.Boot, f)) (flat_map section_pairs ((word Key.Script, g) ∷ [])) (section_key_known top_key (word Key.Boot) f refl) (joined top_key (section_pairs (word Key.Script, g)) [] (section_key_known top_key (word Key.Script) g refl) (refl)))))) in
+    joined top_key (section_pairs (word Key.Pool, a)) (flat_map section_pairs ((word Key.Partition, b) ∷ (word Key.Domain, c) ∷ (word Key.Object, e) ∷ (word Key.Boot, f) ∷ (word Key.Script, g) ∷ (word Key.Futex, k) ∷ [])) (section_key_known top_key (word Key.Pool) a refl) (joined top_key (section_pairs (word Key.Partition, b)) (flat_map section_pairs ((word Key.Domain, c) ∷ (word Key.Object, e) ∷ (word Key.Boot, f) ∷ (word Key.Script, g) ∷ (word Key.Futex, k) ∷ [])) (section_key_known top_key (word Key.Partition) b refl) (joined top_key (section_pairs (word Key.Domain, c)) (flat_map section_pairs ((word Key.Object, e) ∷ (word Key.Boot, f) ∷ (word Key.Script, g) ∷ (word Key.Futex, k) ∷ [])) (section_key_known top_key (word Key.Domain) c refl) (joined top_key (section_pairs (word Key.Object, e)) (flat_map section_pairs ((word Key.Boot, f) ∷ (word Key.Script, g) ∷ (word Key.Futex, k) ∷ [])) (section_key_known top_key (word Key.Object) e refl) (joined top_key (section_pairs (word Key.Boot, f)) (flat_map section_pairs ((word Key.Script, g) ∷ (word Key.Futex, k) ∷ [])) (section_key_known top_key (word Key.Boot) f refl) (joined top_key (section_pairs (word Key.Script, g)) (flat_map section_pairs ((word Key.Futex, k) ∷ [])) (section_key_known top_key (word Key.Script) g refl) (joined top_key (section_pairs (word Key.Futex, k)) [] (section_key_known top_key (word Key.Futex) k refl) (refl))))))) in
     none_stray top_key (with_members (top ++ ss) no_members) (keys_pass top_key (top ++ ss) no_members (joined top_key top ss (top_keys mpu regions policy rodata) all) refl)

@@ -61,7 +61,7 @@ given_kept : (bytes : List ℕ) → items (given bytes) ≡ bytes
 given_kept [] = refl
 given_kept (b ∷ bs) = refl
 
-size_kept : (name : Text) (n : ℕ) (bytes : List ℕ) → n ≤ 65536 → size_of (one_variable name n bytes ∷ []) ≡ n
+pub size_kept : (name : Text) (n : ℕ) (bytes : List ℕ) → n ≤ 65536 → size_of (one_variable name n bytes ∷ []) ≡ n
 size_kept name n bytes most = omega (arith, most)
 
 pub placed_alike : (mpu : Mpu) (variables : List Text) (ranges : List Range) (ps : List PartitionEntry) → placed_partitions ranges (entries_by mpu variables ps) ≡ placed_partitions ranges ps
@@ -96,7 +96,7 @@ sized mpu i p h =
     let wide = room.room in
     record { round = round_by mpu (rounded mpu (asked_size p)) room.guarded; room = omega (arith, few, wide) }
 
-none_outside : (key : Key) (low high n : ℕ) (place : Place) → low ≤ n → n ≤ high → outside key (pos low) (pos high) place (pos n) ≡ []
+pub none_outside : (key : Key) (low high n : ℕ) (place : Place) → low ≤ n → n ≤ high → outside key (pos low) (pos high) place (pos n) ≡ []
 none_outside key low high n place h k =
     let a : nat_lt n low ≡ false = grind (arith, nat_tests) in
     let b : nat_lt high n ≡ false = grind (arith, nat_tests) in

@@ -3,6 +3,7 @@ use Rattle.std.specs.Prelude.{ℕ, ℤ, List, [], ◌∷◌, map, drop, true, fa
 use Rattle.um_base.specs.declared.attr.Attr.{Attr}
 use Rattle.um_base.specs.declared.image.Boot.{Boot}
 use Rattle.um_base.specs.declared.image.DomainDef.{DomainDef}
+use Rattle.um_base.specs.declared.image.Futex.{Futex}
 use Rattle.um_base.specs.declared.image.ObjectDef.{ObjectDef}
 use Rattle.um_base.specs.declared.image.Partition.{Partition}
 use Rattle.um_base.specs.declared.image.Pool.{Pool}
@@ -13,6 +14,7 @@ use Rattle.um_document.specs.declared.description.Alignment.{Alignment}
 use Rattle.um_document.specs.declared.description.BootEntry.{BootEntry}
 use Rattle.um_document.specs.declared.description.Details.{Details}
 use Rattle.um_document.specs.declared.description.DomainEntry.{DomainEntry}
+use Rattle.um_document.specs.declared.description.FutexEntry.{FutexEntry}
 use Rattle.um_document.specs.declared.description.ObjectEntry.{ObjectEntry}
 use Rattle.um_document.specs.declared.description.PartitionContents.{PartitionContents}
 use Rattle.um_document.specs.declared.description.PartitionEntry.{PartitionEntry}
@@ -73,6 +75,7 @@ details_by Kind.Stack (Setup.Stack entries) = Details.Stack (Some (pos entries))
 details_by Kind.Stack setup = Details.Stack None
 details_by Kind.Pipe (Setup.Pipe size) = Details.Pipe (Some (pos size))
 details_by Kind.Pipe setup = Details.Pipe None
+details_by Kind.Timer setup = Details.Timer
 
 abbrev pub object_entry : ObjectDef → ObjectEntry
 object_entry o = record { name = o.name; public = o.public; details = details_by o.kind o.setup }
@@ -95,3 +98,6 @@ boot_entry objects scripts domains pools b =
       pool = option_map (name_at pools) b.pool;
       grants = row_names objects b.grants;
     }
+
+abbrev pub futex_entry : Names → Futex → FutexEntry
+futex_entry partitions f = record { name = f.name; partition = name_at partitions f.partition; offset = pos f.offset }

@@ -30,6 +30,7 @@ details_pairs (Details.Stack None) = []
 details_pairs (Details.Stack (Some n)) = number_pair Key.Entries n ∷ []
 details_pairs (Details.Pipe None) = []
 details_pairs (Details.Pipe (Some n)) = number_pair Key.Size n ∷ []
+details_pairs Details.Timer = []
 
 abbrev pub kind_of_details : Details → Kind
 kind_of_details Details.Thread = Kind.Thread
@@ -39,6 +40,7 @@ kind_of_details (Details.Mutex init) = Kind.Mutex
 kind_of_details (Details.Msgq n) = Kind.Msgq
 kind_of_details (Details.Stack n) = Kind.Stack
 kind_of_details (Details.Pipe n) = Kind.Pipe
+kind_of_details Details.Timer = Kind.Timer
 
 abbrev pub pairs_by : List ℕ → Bool → Details → Pairs
 pairs_by name public details =

@@ -3,6 +3,7 @@ use Rattle.std.specs.Prelude.{ℕ, List, ◌++◌, map, pos}
 use Rattle.std.specs.List.{flat_map}
 use Rattle.um_base.specs.declared.image.Boot.{Boot}
 use Rattle.um_base.specs.declared.image.DomainDef.{DomainDef}
+use Rattle.um_base.specs.declared.image.Futex.{Futex}
 use Rattle.um_base.specs.declared.image.Image.{Image}
 use Rattle.um_base.specs.declared.image.ObjectDef.{ObjectDef}
 use Rattle.um_base.specs.declared.image.Partition.{Partition}
@@ -12,10 +13,10 @@ use Rattle.um_base.specs.declared.names.Row.{Row}
 use Rattle.um_document.specs.declared.shape.Key.{Key}
 use Rattle.um_document.specs.Shape.{word}
 use Rattle.um_canonical.specs.Printed.{Printed, Pairs, header, pair, line_text}
-use Rattle.um_canonical.specs.Entries.{Names, Packed, packed_by, pool_entry, domain_entry, object_entry, boot_entry, row_names}
+use Rattle.um_canonical.specs.Entries.{Names, Packed, packed_by, pool_entry, domain_entry, object_entry, boot_entry, futex_entry, row_names}
 use Rattle.um_canonical.specs.Fresh.{variable_name, first_name}
 use Rattle.um_canonical.specs.Sections.{variable_atoms, texts_pair}
-use Rattle.um_canonical.specs.Text.{script_entry, of_pool, of_partition, of_domain, of_object, of_boot, of_script, top_by}
+use Rattle.um_canonical.specs.Text.{script_entry, of_pool, of_partition, of_domain, of_object, of_boot, of_script, of_futex, top_by}
 
 -- a key's line
 abbrev pub pair_text : List ℕ × Printed → List ℕ
@@ -67,3 +68,6 @@ boot_text objects scripts domains pools b = entry_text Key.Boot (of_boot (boot_e
 
 unfoldable pub script_text : Names → Names → Names → Script → List ℕ
 script_text partitions domains scripts s = entry_text Key.Script (of_script (script_entry partitions domains scripts s))
+
+unfoldable pub futex_text : Names → Futex → List ℕ
+futex_text partitions f = entry_text Key.Futex (of_futex (futex_entry partitions f))

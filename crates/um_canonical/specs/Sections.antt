@@ -66,3 +66,6 @@ boot_by thread stack script priority domain mode pool grants =
 
 abbrev pub script_by : List ℕ → List (List ℕ) → Pairs
 script_by name lines = text_pair Key.Name name ∷ texts_pair Key.Lines lines ∷ []
+
+abbrev pub futex_by : List ℕ → List ℕ → ℤ → Pairs
+futex_by name partition offset = text_pair Key.Name name ∷ text_pair Key.Partition partition ∷ number_pair Key.Offset offset ∷ []

@@ -8,12 +8,12 @@ use Rattle.um_base.specs.declared.instr.Instr.{Instr}
 use Rattle.um_script.specs.Canonical.{canonical}
 use Rattle.um_canonical.specs.declared.names.NameTable.{NameTable}
 use Rattle.um_canonical.specs.Named.{shown}
-use Rattle.um_canonical.specs.Pieces.{top_text, pool_text, partitions_text, domain_text, object_text, boot_text, script_text}
-use Rattle.um_canonical.specs.Text.{Text, names_by, pools_in, partitions_in, domains_in, objects_in, scripts_in}
+use Rattle.um_canonical.specs.Pieces.{top_text, pool_text, partitions_text, domain_text, object_text, boot_text, script_text, futex_text}
+use Rattle.um_canonical.specs.Text.{Text, names_by, pools_in, partitions_in, domains_in, objects_in, scripts_in, futexes_in}
 
 -- all names in one list
 abbrev pub names_of : NameTable → List Text
-names_of t = names_by t.pools.items t.partitions.items t.domains.items t.objects.items t.scripts.items
+names_of t = names_by t.pools.items t.partitions.items t.domains.items t.objects.items t.scripts.items t.futexes.items
 
 -- the names in it are those of an image
 pub record AreNamesOf (t : NameTable) (image : Image) : Type 0 where
@@ -22,6 +22,7 @@ pub record AreNamesOf (t : NameTable) (image : Image) : Type 0 where
   pub domains : t.domains.items ≡ domains_in image
   pub objects : t.objects.items ≡ objects_in image
   pub scripts : t.scripts.items ≡ scripts_in image
+  pub futexes : t.futexes.items ≡ futexes_in image
 
 -- the canonical line of an instruction
 unfoldable pub shown_line : NameTable → Instr → Text
@@ -45,4 +46,5 @@ text_by t numbers image =
     ++ (flat_map (domain_text t.partitions.items) image.domains
     ++ (flat_map object_text image.objects
     ++ (flat_map (boot_by t) image.boots
-    ++ flat_map (script_by t) image.scripts)))))
+    ++ (flat_map (script_by t) image.scripts
+    ++ flat_map (futex_text t.partitions.items) image.futexes))))))

@@ -1,6 +1,7 @@
 -- The text that is printed for an image.
 use Rattle.std.specs.Prelude.{ℕ, ℤ, pos, List, [], ◌∷◌, ◌++◌, map, length}
 use Rattle.um_base.specs.declared.image.DomainDef.{DomainDef}
+use Rattle.um_base.specs.declared.image.Futex.{Futex}
 use Rattle.um_base.specs.declared.image.Image.{Image}
 use Rattle.um_base.specs.declared.image.ObjectDef.{ObjectDef}
 use Rattle.um_base.specs.declared.image.Partition.{Partition}
@@ -12,6 +13,7 @@ use Rattle.um_base.specs.declared.names.Policy.{Policy}
 use Rattle.um_document.specs.declared.description.BootEntry.{BootEntry}
 use Rattle.um_document.specs.declared.description.Description.{Description}
 use Rattle.um_document.specs.declared.description.DomainEntry.{DomainEntry}
+use Rattle.um_document.specs.declared.description.FutexEntry.{FutexEntry}
 use Rattle.um_document.specs.declared.description.ObjectEntry.{ObjectEntry}
 use Rattle.um_document.specs.declared.description.PoolEntry.{PoolEntry}
 use Rattle.um_document.specs.declared.description.ScriptEntry.{ScriptEntry}
@@ -21,11 +23,11 @@ use Rattle.um_vocabulary.specs.Words.{mpu_word, policy_word}
 use Rattle.um_script.specs.Canonical.{canonical}
 use Rattle.um_canonical.specs.Printed as printed
 use Rattle.um_canonical.specs.Printed.{Pairs, document_text}
-use Rattle.um_canonical.specs.Entries.{Packed, partition_entry, packed_by, pool_entry, domain_entry, object_entry, boot_entry}
+use Rattle.um_canonical.specs.Entries.{Packed, partition_entry, packed_by, pool_entry, domain_entry, object_entry, boot_entry, futex_entry}
 use Rattle.um_canonical.specs.Fresh.{fresh_names}
 use Rattle.um_canonical.specs.Named.{shown}
 use Rattle.um_canonical.specs.Objects.{number_pair, text_pair, pairs_by}
-use Rattle.um_canonical.specs.Sections.{bytes_pairs, pool_by, partition_by, domain_by, boot_by, script_by}
+use Rattle.um_canonical.specs.Sections.{bytes_pairs, pool_by, partition_by, domain_by, boot_by, script_by, futex_by}
 
 abbrev pub Text : Type 0
 Text = List ℕ
@@ -44,6 +46,9 @@ objects_in image = map (λ (o : ObjectDef). o.name) image.objects
 
 abbrev pub scripts_in : Image → List Text
 scripts_in image = map (λ (s : Script). s.name) image.scripts
+
+abbrev pub futexes_in : Image → List Text
+futexes_in image = map (λ (f : Futex). f.name) image.futexes
 
 abbrev pub script_entry : List Text → List Text → List Text → Script → ScriptEntry
 script_entry partitions domains scripts s = record { name = s.name; lines = map (λ (line : Instr). canonical (shown partitions domains scripts line)) s.lines }
@@ -65,14 +70,15 @@ described_by image packed pools partitions domains objects scripts =
       objects = map object_entry image.objects;
       boots = map (boot_entry objects scripts domains pools) image.boots;
       scripts = map (script_entry partitions domains scripts) image.scripts;
+      futexes = map (futex_entry partitions) image.futexes;
     }
 
 -- all names of an image
-abbrev pub names_by : List Text → List Text → List Text → List Text → List Text → List Text
-names_by pools partitions domains objects scripts = pools ++ partitions ++ domains ++ objects ++ scripts
+abbrev pub names_by : List Text → List Text → List Text → List Text → List Text → List Text → List Text
+names_by pools partitions domains objects scripts futexes = pools ++ partitions ++ domains ++ objects ++ scripts ++ futexes
 
 abbrev pub names_in : Image → List Text
-names_in image = names_by (pools_in image) (partitions_in image) (domains_in image) (objects_in image) (scripts_in image)
+names_in image = names_by (pools_in image) (partitions_in image) (domains_in image) (objects_in image) (scripts_in image) (futexes_in image)
 
 abbrev pub packed_in : Image → List Packed
 packed_in image = packed_among (names_in image) image
@@ -85,8 +91,9 @@ abbrev pub top_by : Mpu → ℤ → Policy → List ℕ → Pairs
 top_by mpu regions policy rodata =
     number_pair Key.Version (pos 2) ∷ text_pair Key.Mpu (mpu_word mpu) ∷ number_pair Key.Regions regions ∷ text_pair Key.Oops (policy_word policy) ∷ bytes_pairs Key.Rodata rodata
 
-abbrev pub sections_by : List Pairs → List Pairs → List Pairs → List Pairs → List Pairs → List Pairs → List printed.Section
-sections_by a b c e f g = (word Key.Pool, a) ∷ (word Key.Partition, b) ∷ (word Key.Domain, c) ∷ (word Key.Object, e) ∷ (word Key.Boot, f) ∷ (word Key.Script, g) ∷ []
+abbrev pub sections_by : List Pairs → List Pairs → List Pairs → List Pairs → List Pairs → List Pairs → List Pairs → List printed.Section
+sections_by a b c e f g h =
+    (word Key.Pool, a) ∷ (word Key.Partition, b) ∷ (word Key.Domain, c) ∷ (word Key.Object, e) ∷ (word Key.Boot, f) ∷ (word Key.Script, g) ∷ (word Key.Futex, h) ∷ []
 
 abbrev pub of_pool : PoolEntry → Pairs
 of_pool p = pool_by p.name p.size
@@ -106,11 +113,15 @@ of_boot b = boot_by b.thread b.stack b.script b.priority b.domain b.mode b.pool 
 abbrev pub of_script : ScriptEntry → Pairs
 of_script s = script_by s.name s.lines
 
+abbrev pub of_futex : FutexEntry → Pairs
+of_futex f = futex_by f.name f.partition f.offset
+
 abbrev pub top_of : Description → Pairs
 top_of d = top_by d.mpu d.regions d.policy d.rodata
 
 abbrev pub sections_of : Description → List Packed → List printed.Section
-sections_of d ps = sections_by (map of_pool d.pools) (map of_partition ps) (map of_domain d.domains) (map of_object d.objects) (map of_boot d.boots) (map of_script d.scripts)
+sections_of d ps =
+    sections_by (map of_pool d.pools) (map of_partition ps) (map of_domain d.domains) (map of_object d.objects) (map of_boot d.boots) (map of_script d.scripts) (map of_futex d.futexes)
 
 -- the text of a description whose partitions are printed so
 abbrev pub text_for : Description → List Packed → List ℕ

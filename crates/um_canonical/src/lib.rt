@@ -3,6 +3,7 @@
 
 mod boots;
 mod domains;
+mod futexes;
 mod laws;
 mod lines;
 mod names;

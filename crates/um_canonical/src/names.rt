@@ -4,7 +4,7 @@ ghost use Rattle.std.specs.Prelude.{◌≡◌, IfOk, map};
 ghost use Rattle.um_canonical.specs.{Named.{name_at}, Tables.{names_of, AreNamesOf}};
 
 use std::alloc::Global;
-use um_base::{DomainDef, Image, Name, ObjectDef, OutOfMemory, Partition, Pool, Script};
+use um_base::{DomainDef, Futex, Image, Name, ObjectDef, OutOfMemory, Partition, Pool, Script};
 
 /// The names of an image, kind by kind, in their order.
 #[derive(Drop)]
@@ -14,6 +14,7 @@ pub struct NameTable {
     pub domains: Vec<Name>,
     pub objects: Vec<Name>,
     pub scripts: Vec<Name>,
+    pub futexes: Vec<Name>,
 }
 
 /// The name of a number; none is the empty one.
@@ -60,6 +61,12 @@ fn of_scripts(alloc: Global, scripts: &[Script]) -> Result<Vec<Name>, OutOfMemor
     Ok(names)
 }
 
+fn of_futexes(alloc: Global, futexes: &[Futex]) -> Result<Vec<Name>, OutOfMemory>
+    ensures { IfOk result (λ names. names.items ≡ map (λ futex. futex.name) futexes.now) }
+{
+    Ok(futexes.iter().map(|futex| futex.name).collect(alloc)?)
+}
+
 impl NameTable {
     /// That of an image.
     pub fn of(alloc: Global, image: &Image) -> Result<NameTable, OutOfMemory>
@@ -71,6 +78,7 @@ impl NameTable {
             domains: of_domains(alloc, image.domains.as_slice())?,
             objects: of_objects(alloc, image.objects.as_slice())?,
             scripts: of_scripts(alloc, image.scripts.as_slice())?,
+            futexes: of_futexes(alloc, image.futexes.as_slice())?,
         })
     }
 
@@ -84,6 +92,7 @@ impl NameTable {
         all.extend_from_slice(&self.domains)?;
         all.extend_from_slice(&self.objects)?;
         all.extend_from_slice(&self.scripts)?;
+        all.extend_from_slice(&self.futexes)?;
         Ok(all)
     }
 }

@@ -5,6 +5,7 @@ ghost use Rattle.um_canonical.specs.{Pieces.{top_text}, Tables.{text_by}, Text.{
 
 use crate::boots::put_boots;
 use crate::domains::put_domains;
+use crate::futexes::put_futexes;
 use crate::names::NameTable;
 use crate::objects::put_objects;
 use crate::pairs::{put_bytes, put_number, put_text};
@@ -43,7 +44,8 @@ fn put_all(
     put_domains(text, &names.partitions, image.domains.as_slice())?;
     put_objects(text, image.objects.as_slice())?;
     put_boots(text, names, image.boots.as_slice())?;
-    put_scripts(text, names, image.scripts.as_slice())
+    put_scripts(text, names, image.scripts.as_slice())?;
+    put_futexes(text, &names.partitions, image.futexes.as_slice())
 }
 
 /// Puts the canonical description of an image, of version 2, behind a text. A variable fills each partition, and has

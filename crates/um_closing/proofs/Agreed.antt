@@ -1,8 +1,7 @@
 -- The state that is read off the sites agrees with the machine's last state in all that a dump reads, where no processor has a step left.
 use Rattle.std.specs.Prelude.{if◌then◌else◌, ◌&&◌, ◌||◌, IsTrue, nat_le, nat_lt, not, slice_index_or}
-use Rattle.std.proofs.Common.{◌<◌, ◌∙◌, ◌≡◌, ◌≢◌, ◌≤◌, Bool, List, None, [], ap, arith, false, inl, inr, length, refl, subst, sym, true, ℕ}
-use Rattle.std.proofs.lemmas.Bool.{false≢true, ltb-true}
-use Rattle.std.proofs.lemmas.Bool.Decides.{nat_tests}
+use Rattle.std.proofs.Common.{◌<◌, ◌∙◌, ◌≡◌, ◌≢◌, Bool, List, None, [], ap, arith, false, inl, inr, length, refl, subst, sym, true, ℕ}
+use Rattle.std.proofs.lemmas.Bool.{false≢true, le-leb, ltb-true}
 use Rattle.std.proofs.lemmas.List.{length-map, ext_get_or, get_or-map}
 use Rattle.um_base.specs.declared.ask.Waiter.{Waiter}
 use Rattle.um_base.specs.declared.image.Image.{Image}
@@ -20,7 +19,7 @@ use Rattle.um_fine.specs.Places.{Todo}
 use Rattle.um_fine.specs.Processor.{kind_of}
 use Rattle.um_refinement.specs.Fine.{Fine, heap, object, row, total}
 use Rattle.um_refinement.specs.Lists.{counted, edited, is_recycle, is_vacate, is_wipe}
-use Rattle.um_refinement.specs.Objects.{is_reserved, recyclers, status_of, vacaters}
+use Rattle.um_refinement.specs.Objects.{cell_of, is_reserved, recyclers, status_of, vacaters}
 use Rattle.um_refinement.specs.Relation.{Rel}
 use Rattle.um_refinement.proofs.HeldRows.{total-zero}
 use Rattle.um_refinement.proofs.IdleComplete.{outside, past}
@@ -107,14 +106,14 @@ module _ (f : Fine) (m : State) (rel : Rel f m) (placed : IsPlaced m) (idle : Ar
       where
         by : IsRow m.image x → ⊥
         by (inl l) = lives-not Status.Reserved (placed.live x l) refl reserved
-        by (inr l) = let high : STATIC_ROWS ≤ x = l.0 in let yes : nat_le STATIC_ROWS x ≡ true = grind (arith, nat_tests) in false≢true (sym low ∙ yes)
+        by (inr l) = false≢true (sym low ∙ le-leb STATIC_ROWS x l.0)
 
     status-same : status_off x (row f x) (heap f) ≡ (object_at m x).status
     status-same =
         ap (λ b. status_of (row f x).stage (nat_le STATIC_ROWS x && not b)) (rel.heap.free x few)
         ∙ same-status (row f x).stage (object_at m x).status (nat_le STATIC_ROWS x) ((rel.rows x few).status.status settled) static-row
 
-    cell-same : object f x ≡ record { contents = (object_at m x).contents; waiters = (object_at m x).waiters; buffer = (object_at m x).buffer }
+    cell-same : object f x ≡ cell_of (object f x).noted (object_at m x)
     cell-same = (rel.rows x few).contents.whole (none-left (is_wipe x) ∙ sym (none-left (is_recycle x)))
 
     -- a row that is shown isn't free
@@ -179,6 +178,8 @@ module _ (f : Fine) (m : State) (rel : Rel f m) (placed : IsPlaced m) (idle : Ar
         objects = objects-agree;
         pairs = λ t x few. ap (λ (flags : List Bool). slice_index_or flags t false) (pairs-same x few);
         waiters = all-waiters;
+        joins = rel.joins.waiters;
+        futexes = rel.memory.futexes;
         domains = domain-same;
         pools = rel.heap.pools;
         memory = rel.memory.memory;

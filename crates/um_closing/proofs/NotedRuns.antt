@@ -43,8 +43,8 @@ use Rattle.um_refinement.proofs.Parts.{kept-step}
 use Rattle.um_refinement.proofs.Reachable.{opening-wide, reachable-sound}
 use Rattle.um_refinement.proofs.RoomKnown.{events-stand, has-room}
 use Rattle.um_refinement.proofs.StuckComplete.{stuck-complete}
-use Rattle.um_refinement.proofs.StuckLists.{stuck-empty}
-use Rattle.um_refinement.proofs.SuitsKnown.{proper-known, tells-known}
+use Rattle.um_refinement.proofs.StuckLists.{halts, stuck-empty}
+use Rattle.um_refinement.proofs.SuitsKnown.{kept-known, proper-known, tells-known}
 use Rattle.um_closing.specs.Agreement.{AgreeInDump}
 use Rattle.um_closing.specs.Idle.{AreIdle}
 use Rattle.um_closing.specs.ReadOff.{closing_state}
@@ -115,7 +115,7 @@ module _ (image : Image) (cpus : ℕ) (described : IsDescribed image) where
         let proper = proper-known image cpus described known m reach in
         let sound = reachable-sound image cpus described.few m reach known in
         let room = has-room f m rel proper sound bounds (tells-known image cpus described known m reach) (children-known image cpus m reach) can counts in (
-          stuck-empty f m rel proper (λ t l started. started-placed image cpus described m reach t started) sound room (events-stand f m rel proper sound bounds) stuck,
+          stuck-empty f m rel proper (λ t l started. started-placed image cpus described m reach t started) sound room (events-stand f m rel proper sound bounds) (λ t. ((kept-known image cpus described known m reach).orderly t).steps) (λ k l some. halts f stuck k l),
           stuck-complete image cpus described known can f.processors f.sites m rel reach bounds counts stuck,
         )
 

@@ -5,9 +5,10 @@ use Rattle.std.proofs.Common.{◌≡◌, ◌≤◌, arith, length, map, refl}
 use Rattle.std.proofs.lemmas.Bool.{lt-ltb}
 use Rattle.um_base.specs.declared.image.Image.{Image}
 use Rattle.um_base.specs.declared.limits.TheConstants.{DOMAINS, ROWS, THREADS}
+use Rattle.um_fine.specs.Clock.{deadlines}
 use Rattle.um_fine.specs.Sites.{SiteState, is_site}
 use Rattle.um_fine.specs.Steps.{Site}
-use Rattle.um_refinement.specs.Fine.{bytes_state, heap_state, object_state, parts_state, row_state, scheduler_state, thread_state}
+use Rattle.um_refinement.specs.Fine.{bytes_state, clock_state, heap_state, joins_state, object_state, parts_state, row_state, scheduler_state, thread_state}
 use Rattle.um_closing.specs.ReadOff.{numbers, object_off, object_there, pairs_there, parts_there, read_off, thread_off, thread_there}
 use Rattle.um_closing.proofs.Numbers.{same_numbers}
 
@@ -23,6 +24,10 @@ read-same image one two few same = λ i.
       memory = (bytes_state (same Site.memory refl i)).memory;
       stacks = (bytes_state (same Site.memory refl i)).stacks;
       pools = (heap_state (same Site.heap refl i)).pools;
+      now = (clock_state (same Site.clock refl i)).now;
+      armed = deadlines (clock_state (same Site.clock refl i)).marks;
+      joins = (joins_state (same Site.joins refl i)).waiters;
+      futexes = (bytes_state (same Site.memory refl i)).futexes;
     }
   where
     threads : map (thread_there one) (numbers THREADS) ≡ map (thread_there two) (numbers THREADS)

@@ -34,12 +34,14 @@ pub record ObjectsAgree (image : Image) (x : ℕ) (a b : Object) : Type 0 where
 abbrev pub waiters_in : State → List (List Waiter)
 waiters_in s = map (λ (o : Object). o.waiters) s.objects
 
--- Two states of which a dump reads the same: threads, objects, pairs, who waits, domains, pools and memory.
+-- Two states of which a dump reads the same: threads, objects, pairs, who waits on an object, for an end and on a futex, domains, pools and memory.
 pub record AgreeInDump (image : Image) (s s2 : State) : Type 0 where
   pub threads : (t : ℕ) → ThreadsAgree (thread_at s t) (thread_at s2 t)
   pub objects : (x : ℕ) → x < ROWS → ObjectsAgree image x (object_at s x) (object_at s2 x)
   pub pairs : (t x : ℕ) → x < ROWS → pair_at s t x ≡ pair_at s2 t x
   pub waiters : waiters_in s ≡ waiters_in s2
+  pub joins : s.joins ≡ s2.joins
+  pub futexes : s.futexes ≡ s2.futexes
   pub domains : (d : ℕ) → d < length image.domains → domain_at s d ≡ domain_at s2 d
   pub pools : s.pools ≡ s2.pools
   pub memory : s.memory ≡ s2.memory

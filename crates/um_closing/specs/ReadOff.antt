@@ -11,13 +11,14 @@ use Rattle.um_machine.specs.Objects.{is_free}
 use Rattle.um_machine.specs.State.{State, nobody}
 use Rattle.um_words.specs.declared.row_word.RowWord.{RowWord}
 use Rattle.um_words.specs.declared.thread_word.ThreadWord.{ThreadWord}
+use Rattle.um_fine.specs.Clock.{deadlines}
 use Rattle.um_fine.specs.Heap.{Heap, cost_at}
 use Rattle.um_fine.specs.Objects.{ObjectCell}
 use Rattle.um_fine.specs.Processor.{kind_of}
 use Rattle.um_fine.specs.Sites.{SiteState}
 use Rattle.um_fine.specs.Steps.{FineStep, Site}
 use Rattle.um_refinement.specs.After.{left_by}
-use Rattle.um_refinement.specs.Fine.{bytes_state, heap_state, object_state, parts_state, row_state, scheduler_state, thread_state}
+use Rattle.um_refinement.specs.Fine.{bytes_state, clock_state, heap_state, joins_state, object_state, parts_state, row_state, scheduler_state, thread_state}
 use Rattle.um_refinement.specs.Objects.{status_of}
 
 -- the numbers below n, ascending
@@ -77,6 +78,10 @@ module _ (image : Image) (sites : Site → SiteState) where
         memory = (bytes_state (sites Site.memory)).memory;
         stacks = (bytes_state (sites Site.memory)).stacks;
         pools = (heap_state (sites Site.heap)).pools;
+        now = (clock_state (sites Site.clock)).now;
+        armed = deadlines (clock_state (sites Site.clock)).marks;
+        joins = (joins_state (sites Site.joins)).waiters;
+        futexes = (bytes_state (sites Site.memory)).futexes;
       }
 
 -- the state read off after these steps of so many processors

@@ -20,6 +20,9 @@ const UNBORN: ThreadWord = ThreadWord {
     held: false,
     mode: Mode::User,
     domain: 0,
+    aborted: false,
+    suspended: false,
+    note: None,
     number: 0,
 };
 
@@ -132,6 +135,14 @@ impl<'a, S: ReadSites> Dumped for Closing<'a, S> {
             Some(cell) => cell.waiters.as_slice(),
             None => &[],
         }
+    }
+
+    fn joins(&self) -> &[Waiter] {
+        self.sites.read_joins().waiters().as_slice()
+    }
+
+    fn futexes(&self) -> &[Waiter] {
+        self.sites.read_memory().futexes().as_slice()
     }
 
     fn has_pair(&self, thread: usize, row: usize) -> bool {

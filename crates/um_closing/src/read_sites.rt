@@ -6,6 +6,7 @@ ghost use Rattle.um_fine.specs.Steps.{Site};
 ghost use Rattle.um_refinement.specs.Fine.{
   bytes_state,
   heap_state,
+  joins_state,
   object_state,
   parts_state,
   row_state,
@@ -15,7 +16,7 @@ ghost use Rattle.um_refinement.specs.Fine.{
 ghost use Rattle.um_tables.specs.ObjectCells.{cleared, kept_in};
 
 use um_base::Parts;
-use um_tables::{Bytes, Heap, ObjectCell, Scheduler, Tables};
+use um_tables::{Bytes, Heap, Joins, ObjectCell, Scheduler, Tables};
 use um_words::{RowWord, ThreadWord};
 
 /// Sites at which nobody makes a step any more.
@@ -58,6 +59,10 @@ pub trait ReadSites {
     /// The contents of the scheduler's cell.
     fn read_scheduler(&self) -> &Scheduler
         ensures { result.now ≡ scheduler_state (sites self.now Site.scheduler) };
+
+    /// The contents of the joins' cell.
+    fn read_joins(&self) -> &Joins
+        ensures { result.now ≡ joins_state (sites self.now Site.joins) };
 }
 
 impl ReadSites for Tables {
@@ -91,5 +96,9 @@ impl ReadSites for Tables {
 
     fn read_scheduler(&self) -> &Scheduler {
         self.scheduler_cell()
+    }
+
+    fn read_joins(&self) -> &Joins {
+        self.joins_cell()
     }
 }

@@ -17,10 +17,10 @@ use Rattle.um_tables.proofs.Noted.{made-most}
 use Rattle.um_refinement.specs.Room.{CanRun}
 use Rattle.um_core.specs.CoreSteps.{AllHalt, FirstSteps, GoesOn, Halts, IsCoreOf, Steps}
 use Rattle.um_core.specs.Cores.{Core, Stands}
-use Rattle.um_core.specs.PickedRun.{ArePicked, IsPicked, IsPickedRun, NoneFollows, behind}
-use Rattle.um_core.proofs.CoreExact.{AreShort, goes-on, halts-none}
+use Rattle.um_core.specs.PickedRun.{ArePicked, IsPicked, IsPickedRun, NoneIsNext, behind}
+use Rattle.um_core.proofs.CoreExact.{goes-on, halts-none}
 use Rattle.um_core.proofs.Picked.{picked-push, reached}
-use Rattle.um_core.proofs.Refusals.{nobody-steps}
+use Rattle.um_core.proofs.Refusals.{AreShort, nobody-steps}
 use Rattle.um_core.proofs.StepsOn.{stands-first}
 
 -- the steps of a core so far, which are this many, and what its order still prefers
@@ -54,18 +54,18 @@ module _ (image : Image) (cpus : ℕ) (described : IsDescribed image) (can : Can
   within : (first n : ℕ) → behind cpus first n < cpus
   within first n = mod-lt (first + n) can.some
 
-  none-of : (first n : ℕ) → Halts image core (behind (length core.processors) first n) → NoneFollows image cpus done (behind cpus first n)
+  none-of : (first n : ℕ) → Halts image core (behind (length core.processors) first n) → NoneIsNext image cpus done (behind cpus first n)
   none-of first n halts =
       halts-none image cpus done core is (behind cpus first n) (within first n) short (subst (λ c. Halts image core (behind c first n)) so.stands.count halts)
 
   -- all processors halt: the run is over
   pub so-over : (first : ℕ) → first < cpus → AllHalt image first core → IsPickedRun image cpus pick done × (core.sites.log ≡ shown done)
-  so-over first near halt = (record { picked = so.picked; over = nobody-steps image cpus done none }, so.stands.log)
+  so-over first near halt = (record { picked = so.picked; over = nobody-steps image cpus described can short done so.stands.run none }, so.stands.log)
     where
-      none : (k : ℕ) → k < cpus → NoneFollows image cpus done k
+      none : (k : ℕ) → k < cpus → NoneIsNext image cpus done k
       none k l =
           let there = reached cpus first k near l in
-          subst (λ j. NoneFollows image cpus done j) there.2 (none-of first there.0 (halt there.0 (subst (λ c. there.0 < c) (sym so.stands.count) there.1)))
+          subst (λ j. NoneIsNext image cpus done j) there.2 (none-of first there.0 (halt there.0 (subst (λ c. there.0 < c) (sym so.stands.count) there.1)))
 
   -- one more step
   module _ (first : ℕ) (new : Core) (next : FirstSteps image first core new) where
@@ -76,18 +76,18 @@ module _ (image : Image) (cpus : ℕ) (described : IsDescribed image) (can : Can
     step = subst (λ c. Steps image (behind c first next.turn) core new) so.stands.count next.steps
 
     more : GoesOn image cpus done k new
-    more = goes-on image cpus done core is k (within first next.turn) new step
+    more = goes-on image cpus done core is k (within first next.turn) short new step
 
     abbrev e : FineStep
     e = more.made
 
     pub new-most : new.sites.most ≡ core.sites.most
-    new-most = made-most image core.sites step.made new.sites step.taken
+    new-most = made-most image core.sites step.made new.sites step.makes.taken
 
     is-picked : IsPicked image cpus first done e
     is-picked =
         record {
-          follows = more.follows;
+          next = more.next;
           turn = next.turn;
           within = subst (λ c. next.turn < c) so.stands.count next.within;
           made_by = more.maker;
@@ -96,7 +96,7 @@ module _ (image : Image) (cpus : ℕ) (described : IsDescribed image) (can : Can
 
     pub so-short : count + 1 ≤ weight image
     so-short =
-        let most = short image cpus (done ++ e ∷ []) described more.stands.run in
+        let most = short image cpus (done ++ e ∷ []) described can.few more.stands.run in
         let long = length-append done (e ∷ []) in
         let counted = so.counted in
         omega (arith, most, long, counted)

@@ -14,10 +14,11 @@ use Rattle.um_base.specs.declared.names.Mode.{Mode}
 use Rattle.um_base.specs.declared.names.Policy.{Policy}
 use Rattle.um_base.specs.declared.names.Reply.{Reply}
 use Rattle.um_base.specs.declared.names.ThreadIx.{ThreadIx}
+use Rattle.um_base.specs.declared.names.Timeout.{Timeout}
 use Rattle.um_base.specs.Lawful.{IsLawful}
 use Rattle.um_machine.specs.declared.pending.Pending.{Pending}
 use Rattle.um_machine.specs.declared.thread.Thread.{Thread}
-use Rattle.um_machine.specs.Order.{Steps, answer_error, answer_zero, buffered, creates, end_steps, fatal_steps, new_mode, privileged, steps_of, to_addr, to_row, to_thread, work}
+use Rattle.um_machine.specs.Order.{Steps, aborts, answer_error, answer_void, answer_zero, arms, buffered, creates, end_steps, fatal_steps, new_mode, privileged, steps_of, to_addr, to_row, to_thread, work}
 use Rattle.um_machine.specs.State.{value_of}
 use Rattle.um_machine.specs.Table as T
 use Rattle.um_measure.proofs.IndexLemmas.{addr-below}
@@ -27,6 +28,10 @@ names_thread (Pending.Own who) = nat_lt who.0 THREADS
 names_thread (Pending.Named who) = nat_lt who.0 THREADS
 names_thread (Pending.DomMove d who) = nat_lt who.0 THREADS
 names_thread (Pending.Start who script stack priority mode) = nat_lt who.0 THREADS
+names_thread (Pending.Abort who) = nat_lt who.0 THREADS
+names_thread (Pending.Join who timeout) = nat_lt who.0 THREADS
+names_thread (Pending.Suspend who) = nat_lt who.0 THREADS
+names_thread (Pending.Continue who) = nat_lt who.0 THREADS
 names_thread (Pending.Dooms from) = nat_lt from THREADS
 names_thread q = true
 
@@ -47,6 +52,18 @@ module _ (image : Image) (lawful : IsLawful image) where
   buffered-named : (a : ℕ) (kind : Kind) (within : Bool) (size : ℕ) (ask : Ask) → AreNamed (buffered a kind within size ask)
   buffered-named a kind true size ask = refl
   buffered-named a kind false size ask = refl
+
+  arms-named : (timeout : Timeout) (steps : Steps) → AreNamed steps → AreNamed (arms timeout steps)
+  arms-named Timeout.NoWait steps h = h
+  arms-named Timeout.Forever steps h = h
+  arms-named (Timeout.Ticks n) steps h = h
+
+  aborts-named : (t who : ℕ) → nat_lt who THREADS ≡ true → AreNamed (aborts t who)
+  aborts-named t who h = λ i. h i && ends (who == t) i
+    where
+      ends : (itself : Bool) → AreNamed (if itself then Pending.Killed ∷ [] else answer_void)
+      ends true = refl
+      ends false = refl
 
   inherits-named : (b : Bool) (who : ThreadIx) (rest : Steps) → AreNamed rest → AreNamed ((if b then Pending.Inherit who ∷ [] else []) ++ rest)
   inherits-named true who rest h = h
@@ -73,6 +90,18 @@ module _ (image : Image) (lawful : IsLawful image) where
   named-steps t me (Instr.MsgqInit object msg_size max_msgs) = buffered-named _ Kind.Msgq _ _ _
   named-steps t me (Instr.StackInit object entries) = buffered-named _ Kind.Stack _ _ _
   named-steps t me (Instr.PipeInit object size) = buffered-named _ Kind.Pipe _ _ _
+  named-steps t me (Instr.SemTake object timeout) = arms-named timeout _ refl
+  named-steps t me (Instr.MutexLock object timeout) = arms-named timeout _ refl
+  named-steps t me (Instr.MsgqPut object addr timeout) = arms-named timeout _ refl
+  named-steps t me (Instr.MsgqGet object addr timeout) = arms-named timeout _ refl
+  named-steps t me (Instr.StackPop object addr timeout) = arms-named timeout _ refl
+  named-steps t me (Instr.PipeWrite object addr length timeout) = arms-named timeout _ refl
+  named-steps t me (Instr.PipeRead object addr length timeout) = arms-named timeout _ refl
+  named-steps t me (Instr.FutexWait addr value timeout) = arms-named timeout _ refl
+  named-steps t me (Instr.Abort thread) = aborts-named t _ (addr-below image lawful (value_of me.registers thread))
+  named-steps t me (Instr.Join thread timeout) = arms-named timeout _ (λ i. addr-below image lawful (value_of me.registers thread) i && true)
+  named-steps t me (Instr.Suspend thread) = λ i. addr-below image lawful (value_of me.registers thread) i && true
+  named-steps t me (Instr.Continue thread) = λ i. addr-below image lawful (value_of me.registers thread) i && true
   named-steps t me instr = refl
 
 -- Other steps that a call goes on with.

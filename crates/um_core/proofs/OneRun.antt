@@ -1,4 +1,4 @@
--- In the order of a choice there is one run, and it is a fine run.
+-- In the order of a choice there is one run. It is a fine run, and each of its steps is chosen.
 use Rattle.std.proofs.Common.{◌≡◌, inl, inr, ℕ, suc, ◌+◌, ◌%◌, List, [], ◌∷◌, ◌++◌, length, Option, Some, None, refl, sym, ap, ◌∙◌, subst, arith, append_assoc, append-nil, eq-eqb}
 use Rattle.std.proofs.lemmas.Bool.{eqb-true}
 use Rattle.std.proofs.lemmas.Bool.Decides.{leb_tells}
@@ -12,26 +12,38 @@ use Rattle.um_fine.proofs.FineRuns.{runs_push}
 use Rattle.um_fine.proofs.Keys.{same-itself, same-sound}
 use Rattle.rand_pcg.specs.Pcg.{pcg32}
 use Rattle.um_core.specs.Order.{drawn_from, preferred, round_from, seeded}
-use Rattle.um_core.specs.PickedRun.{ArePicked, IsOver, IsPicked, IsPickedRun, MayFollow, behind, processor_after, site_after}
+use Rattle.um_refinement.specs.After.{left_by}
+use Rattle.um_refinement.specs.Choice.{AreChosen, AreChosenBehind}
+use Rattle.um_core.specs.Moments.{AreAlike}
+use Rattle.um_core.specs.PickedRun.{ArePicked, IsNext, IsOver, IsPicked, IsPickedRun, MayFollow, behind, processor_after, site_after}
+use Rattle.um_core.proofs.Chosen.{chosen-alike}
 use Rattle.um_core.proofs.OneStep.{one-step}
 use Rattle.um_core.proofs.Sorts.{sorts-after}
 
--- the steps that one moment offers a processor are one
-follows-one : (image : Image) (cpus : ℕ) (done : List FineStep) (e g : FineStep) → e.cpu ≡ g.cpu → MayFollow image cpus done e → MayFollow image cpus done g → e ≡ g
-follows-one image cpus done e g same l r =
-    one-step image (processor_after image done e.cpu) (site_after image done) (sorts-after image done) e g same
+-- the steps of one kind that one moment offers a processor are one
+follows-one : (image : Image) (cpus : ℕ) (done : List FineStep) (e g : FineStep) → e.cpu ≡ g.cpu → AreAlike e g → MayFollow image cpus done e → MayFollow image cpus done g → e ≡ g
+follows-one image cpus done e g same alike l r =
+    one-step image (processor_after image done e.cpu) (site_after image done) (sorts-after image done) e g same alike
     (record { makes = l.makes.may; takes = l.takes })
     (record { makes = (subst (λ k. ByOneOf image cpus (processor_after image done k) g) (sym same) r.makes).may; takes = r.takes })
+
+-- and the one that is next is the only one: the choice is between the kinds
+next-one : (image : Image) (cpus : ℕ) (done : List FineStep) (e g : FineStep) → e.cpu ≡ g.cpu → IsNext image cpus done e → IsNext image cpus done g → e ≡ g
+next-one image cpus done e g same l r =
+    follows-one image cpus done e g same
+    (chosen-alike image (processor_after image done e.cpu) (left_by image cpus done) (sorts-after image done) e g l.follows.makes.may l.follows.takes
+    (subst (λ k. ByOneOf image cpus (processor_after image done k) g) (sym same) r.follows.makes).may r.follows.takes l.chosen r.chosen)
+    l.follows r.follows
 
 -- and so is the one that is picked
 picked-one : (image : Image) (cpus first : ℕ) (done : List FineStep) (e g : FineStep) → IsPicked image cpus first done e → IsPicked image cpus first done g → e ≡ g
 picked-one image cpus first done e g l r =
     elim (leb_tells l.turn r.turn) [
       | inl below ↦ elim (leb_tells r.turn l.turn) [
-        | inl above ↦ follows-one image cpus done e g (l.made_by ∙ (ap (behind cpus first) (omega (arith, below.1, above.1)) ∙ sym r.made_by)) l.follows r.follows
-        | inr less ↦ absurd (r.others l.turn e less.1 l.made_by l.follows)
+        | inl above ↦ next-one image cpus done e g (l.made_by ∙ (ap (behind cpus first) (omega (arith, below.1, above.1)) ∙ sym r.made_by)) l.next r.next
+        | inr less ↦ absurd (r.others l.turn e less.1 l.made_by l.next)
       ]
-      | inr more ↦ absurd (l.others r.turn g more.1 r.made_by r.follows)
+      | inr more ↦ absurd (l.others r.turn g more.1 r.made_by r.next)
     ]
 
 -- A stream of preferred processors, of which each takes the first from it.
@@ -42,10 +54,10 @@ module _ {S : Type 0} (first : S → ℕ) (rest : S → S) (from : S → ℕ →
   one-order s done [] [] l over r over' = refl
   one-order s done [] (e ∷ g) l over r over' =
       let here = subst (λ firsts. ArePicked image cpus done firsts (e ∷ g)) (more s (length g)) r in
-      absurd (over e (subst (λ d. MayFollow image cpus d e) (sym (append-nil done)) here.0.follows))
+      absurd (over e (subst (λ d. MayFollow image cpus d e) (sym (append-nil done)) here.0.next.follows))
   one-order s done (e ∷ h) [] l over r over' =
       let here = subst (λ firsts. ArePicked image cpus done firsts (e ∷ h)) (more s (length h)) l in
-      absurd (over' e (subst (λ d. MayFollow image cpus d e) (sym (append-nil done)) here.0.follows))
+      absurd (over' e (subst (λ d. MayFollow image cpus d e) (sym (append-nil done)) here.0.next.follows))
   one-order s done (e ∷ h) (f ∷ g) l over r over' =
       let here = subst (λ firsts. ArePicked image cpus done firsts (e ∷ h)) (more s (length h)) l in
       let there = subst (λ firsts. ArePicked image cpus done firsts (f ∷ g)) (more s (length g)) r in
@@ -74,7 +86,16 @@ module _ (image : Image) (cpus : ℕ) where
   fine-on done [] run firsts picked = subst (IsFineRun image cpus) (sym (append-nil done)) run
   fine-on done (e ∷ steps) run [] picked = absurd picked
   fine-on done (e ∷ steps) run (first ∷ firsts) picked =
-      subst (IsFineRun image cpus) (append_assoc done (e ∷ []) steps) (fine-on (done ++ e ∷ []) steps (fine-more done e run picked.0.follows) firsts picked.1)
+      subst (IsFineRun image cpus) (append_assoc done (e ∷ []) steps) (fine-on (done ++ e ∷ []) steps (fine-more done e run picked.0.next.follows) firsts picked.1)
 
   pub picked-fine : (pick : Option ℕ) (h : List FineStep) → IsPickedRun image cpus pick h → IsFineRun image cpus h
   picked-fine pick h run = fine-on [] h (record { processors = λ k. tt; sites = λ i. tt }) (preferred cpus pick (length h)) run.picked
+
+  -- and each of them is chosen
+  chosen-on : (done firsts' : List FineStep) (firsts : List ℕ) → ArePicked image cpus done firsts firsts' → AreChosenBehind image cpus done firsts'
+  chosen-on done [] firsts picked = tt
+  chosen-on done (e ∷ steps) [] picked = absurd picked
+  chosen-on done (e ∷ steps) (first ∷ firsts) picked = (picked.0.next.chosen, chosen-on (done ++ e ∷ []) steps firsts picked.1)
+
+  pub picked-chosen : (pick : Option ℕ) (h : List FineStep) → IsPickedRun image cpus pick h → AreChosen image cpus h
+  picked-chosen pick h run = chosen-on [] h (preferred cpus pick (length h)) run.picked

@@ -1,5 +1,5 @@
 -- Setting a site of the tables to a state of its sort: that state stands there then, and every other site is as before.
-use Rattle.std.proofs.Common.{◌≡◌, ℕ, ◌<◌, true, false, List, [], ◌++◌, length, refl, sym, ap, ◌∙◌, append-nil, arith}
+use Rattle.std.proofs.Common.{◌≡◌, ℕ, ◌<◌, false, List, [], ◌++◌, length, refl, sym, ap, ◌∙◌, append-nil, arith}
 use Rattle.std.specs.Prelude.{◌==◌, IsTrue, nat_lt}
 use Rattle.std.proofs.lemmas.Bool.{eqb-false, false≢true, ltb-true, true≢false}
 use Rattle.std.proofs.lemmas.List.{get_or-set_other, get_or-set_same, length-set}
@@ -27,10 +27,12 @@ module _ (s : Sited) where
       ap domain_cell_state (get_or-set_same s.domain_cells d (record { parts = parts; steps = n }) no_domain_cell (inside d DOMAINS (length s.domain_cells) sized.domain_cells there))
   set-here sized (Site.object x) (SiteState.cell n (Cell.object o)) there sort =
       ap object_state
-      (get_or-set_same s.objects x (record { contents = o.contents; waiters = o.waiters; buffer = o.buffer; steps = n }) (cleared 0) (inside x ROWS (length s.objects) sized.objects there))
+      (get_or-set_same s.objects x (record { contents = o.contents; waiters = o.waiters; noted = o.noted; buffer = o.buffer; steps = n }) (cleared 0) (inside x ROWS (length s.objects) sized.objects there))
   set-here sized Site.memory (SiteState.cell n (Cell.memory m)) there sort = refl
   set-here sized Site.heap (SiteState.cell n (Cell.heap h)) there sort = refl
   set-here sized Site.scheduler (SiteState.cell n (Cell.scheduler t)) there sort = refl
+  set-here sized Site.clock (SiteState.cell n (Cell.clock c)) there sort = refl
+  set-here sized Site.joins (SiteState.cell n (Cell.joins j)) there sort = refl
   set-here sized i z there sort = absurd (false≢true sort)
 
   other : (x y : ℕ) → (x == y) ≡ false → y ≡ x → ⊥
@@ -47,7 +49,7 @@ module _ (s : Sited) where
       ap domain_cell_state (get_or-set_other s.domain_cells d e (record { parts = parts; steps = n }) no_domain_cell (other d e apart))
   set-else (Site.parts d) (SiteState.cell n (Cell.parts parts)) j sort apart = refl
   set-else (Site.object x) (SiteState.cell n (Cell.object o)) (Site.object y) sort apart =
-      ap object_state (get_or-set_other s.objects x y (record { contents = o.contents; waiters = o.waiters; buffer = o.buffer; steps = n }) (cleared 0) (other x y apart))
+      ap object_state (get_or-set_other s.objects x y (record { contents = o.contents; waiters = o.waiters; noted = o.noted; buffer = o.buffer; steps = n }) (cleared 0) (other x y apart))
   set-else (Site.object x) (SiteState.cell n (Cell.object o)) j sort apart = refl
   set-else Site.memory (SiteState.cell n (Cell.memory m)) Site.memory sort apart = absurd (true≢false apart)
   set-else Site.memory (SiteState.cell n (Cell.memory m)) j sort apart = refl
@@ -55,6 +57,10 @@ module _ (s : Sited) where
   set-else Site.heap (SiteState.cell n (Cell.heap h)) j sort apart = refl
   set-else Site.scheduler (SiteState.cell n (Cell.scheduler t)) Site.scheduler sort apart = absurd (true≢false apart)
   set-else Site.scheduler (SiteState.cell n (Cell.scheduler t)) j sort apart = refl
+  set-else Site.clock (SiteState.cell n (Cell.clock c)) Site.clock sort apart = absurd (true≢false apart)
+  set-else Site.clock (SiteState.cell n (Cell.clock c)) j sort apart = refl
+  set-else Site.joins (SiteState.cell n (Cell.joins js)) Site.joins sort apart = absurd (true≢false apart)
+  set-else Site.joins (SiteState.cell n (Cell.joins js)) j sort apart = refl
   set-else i z j sort apart = absurd (false≢true sort)
 
   -- the lists are as long as before
@@ -65,10 +71,12 @@ module _ (s : Sited) where
   set-sized (Site.parts d) (SiteState.cell n (Cell.parts parts)) sort h =
       record { rows = h.rows; threads = h.threads; domains = h.domains; domain_cells = length-set s.domain_cells d (record { parts = parts; steps = n }) ∙ h.domain_cells; objects = h.objects }
   set-sized (Site.object x) (SiteState.cell n (Cell.object o)) sort h =
-      record { rows = h.rows; threads = h.threads; domains = h.domains; domain_cells = h.domain_cells; objects = length-set s.objects x (record { contents = o.contents; waiters = o.waiters; buffer = o.buffer; steps = n }) ∙ h.objects }
+      record { rows = h.rows; threads = h.threads; domains = h.domains; domain_cells = h.domain_cells; objects = length-set s.objects x (record { contents = o.contents; waiters = o.waiters; noted = o.noted; buffer = o.buffer; steps = n }) ∙ h.objects }
   set-sized Site.memory (SiteState.cell n (Cell.memory m)) sort h = record { rows = h.rows; threads = h.threads; domains = h.domains; domain_cells = h.domain_cells; objects = h.objects }
   set-sized Site.heap (SiteState.cell n (Cell.heap k)) sort h = record { rows = h.rows; threads = h.threads; domains = h.domains; domain_cells = h.domain_cells; objects = h.objects }
   set-sized Site.scheduler (SiteState.cell n (Cell.scheduler t)) sort h = record { rows = h.rows; threads = h.threads; domains = h.domains; domain_cells = h.domain_cells; objects = h.objects }
+  set-sized Site.clock (SiteState.cell n (Cell.clock c)) sort h = record { rows = h.rows; threads = h.threads; domains = h.domains; domain_cells = h.domain_cells; objects = h.objects }
+  set-sized Site.joins (SiteState.cell n (Cell.joins j)) sort h = record { rows = h.rows; threads = h.threads; domains = h.domains; domain_cells = h.domain_cells; objects = h.objects }
   set-sized i z sort h = absurd (false≢true sort)
 
 -- An event is put into the log: nothing else changes.
@@ -82,6 +90,8 @@ noted-at s e (Site.object x) = refl
 noted-at s e Site.memory = refl
 noted-at s e Site.heap = refl
 noted-at s e Site.scheduler = refl
+noted-at s e Site.clock = refl
+noted-at s e Site.joins = refl
 
 pub noted-sized : (s : Sited) (e : FineStep) → IsSized s → IsSized (noted s e)
 noted-sized s e h = record { rows = h.rows; threads = h.threads; domains = h.domains; domain_cells = h.domain_cells; objects = h.objects }

@@ -8,7 +8,7 @@ use Rattle.um_base.specs.declared.act.Event.{Event}
 use Rattle.um_base.specs.declared.image.Image.{Image}
 use Rattle.um_invariants.specs.Described.{IsDescribed}
 use Rattle.um_words.specs.declared.fine.FineAct.{FineAct}
-use Rattle.um_fine.specs.Asks.{fits_step, made_by}
+use Rattle.um_fine.specs.Asks.{made_by}
 use Rattle.um_fine.specs.Erasure.{shown, shown_by}
 use Rattle.um_fine.specs.FineRun.{ByOneOf, cpu_of, p_start, same_cpu, site_of}
 use Rattle.um_fine.specs.Follows.{p_next}
@@ -19,13 +19,14 @@ use Rattle.um_fine.specs.Steps.{FineStep, Site}
 use Rattle.um_fine.proofs.FineRuns.{state_push}
 use Rattle.um_fine.proofs.Keys.{same-itself, same-sound}
 use Rattle.um_refinement.specs.Room.{CanRun}
-use Rattle.um_tables.specs.Asked.{AsksFor}
+use Rattle.um_processor.specs.Wants.{Wants, wants_step}
 use Rattle.um_tables.specs.Sited.{IsSized, Sited, WasMade, noted, state_at, with_state}
 use Rattle.um_tables.proofs.Noted.{made-log}
 use Rattle.um_core.specs.Cores.{Core, Stands}
 use Rattle.um_core.specs.PickedRun.{MayFollow, processor_after, site_after}
 use Rattle.um_core.proofs.MomentsKnown.{asked-may, site-there}
 use Rattle.um_core.proofs.OneRun.{fine-more}
+use Rattle.um_core.proofs.OneStep.{wants-fit}
 use Rattle.um_core.proofs.SitesSet.{logged-more, noted-at, noted-sized, set-else, set-here, set-sized}
 use Rattle.um_core.proofs.Sorts.{sorts-after}
 
@@ -65,7 +66,7 @@ stands-first image cpus sites at sized none =
     record { run = record { processors = λ k. tt; sites = λ i. tt }; at = at; processors = λ k l. idle-at cpus k; count = idle-long cpus; sized = sized; log = none }
 
 module _ (image : Image) (cpus : ℕ) (described : IsDescribed image) (can : CanRun image cpus) (done : List FineStep) (core : Core) (stands : Stands image cpus done core)
-    (k : ℕ) (l : k < cpus) (e : FineStep) (asks : AsksFor k image (slice_index_or core.processors k idle) e) (sites : Sited) (made : WasMade image core.sites e sites) where
+    (k : ℕ) (l : k < cpus) (e : FineStep) (asks : Wants k image (slice_index_or core.processors k idle) e) (sites : Sited) (made : WasMade image core.sites e sites) where
   abbrev p : Processor
   p = slice_index_or core.processors k idle
 
@@ -76,7 +77,7 @@ module _ (image : Image) (cpus : ℕ) (described : IsDescribed image) (can : Can
   makes-here = subst (λ (q : Processor). made_by image q e ≡ e) is-p asks.makes
 
   there : IsTrue (is_site e.site)
-  there = subst (λ i. IsTrue (is_site i)) (ap (λ (x : FineStep). x.site) makes-here) (site-there image cpus described can done stands.run k l)
+  there = subst (λ i. IsTrue (is_site i)) (ap (λ (x : FineStep). x.site) makes-here) (site-there image cpus described can done stands.run k l e.act)
 
   stood : state_at core.sites e.site ≡ site_after image done e.site
   stood = stands.at e.site there
@@ -86,7 +87,7 @@ module _ (image : Image) (cpus : ℕ) (described : IsDescribed image) (can : Can
 
   pub follows : MayFollow image cpus done e
   follows =
-      let lawful = asked-may image cpus described can done stands.run k l e makes-here (subst (λ (q : Processor). IsTrue (fits_step image q q.todo e)) is-p asks.fit) taken in
+      let lawful = asked-may image cpus described can done stands.run k l e makes-here (wants-fit image (processor_after image done k) (processor_after image done k).todo e (subst (λ (q : Processor). IsTrue (wants_step image q q.todo e)) is-p asks.fit)) taken in
       record {
         makes = subst (λ j. ByOneOf image cpus (processor_after image done j) e) (sym asks.maker) (record { may = lawful; named = subst (λ n. n < cpus) (sym asks.maker) l });
         takes = taken;

@@ -1,15 +1,15 @@
 //! Processors over the sites that they share.
 
-ghost use Rattle.std.specs.Prelude.{◌≡◌, ◌<◌, ◌≤◌, ℕ, IfOk, List, false, length, map, replicate, true};
+ghost use Rattle.std.specs.Prelude.{◌≡◌, ◌≢◌, ◌<◌, ◌≤◌, ℕ, IfOk, List, [], false, length, map, replicate, true};
 ghost use Rattle.um_base.specs.Lawful.{IsLawful};
 ghost use Rattle.um_machine.specs.Memory.{rodata_of};
-ghost use Rattle.um_fine.specs.{Processor.{idle}, Steps.{FineStep}};
+ghost use Rattle.um_fine.specs.{Answers.{is_due_act, is_tick}, Processor.{idle}, Steps.{FineStep}};
 ghost use Rattle.um_steps.specs.Given.{IsGiven};
-ghost use Rattle.um_processor.specs.Standing.{whole};
+ghost use Rattle.um_processor.specs.{Idles.{is_turn}, Standing.{whole}};
 ghost use Rattle.um_core.specs.{
   Cores.{IsOpened},
-  CoreSteps.{AllHalt, FirstSteps, GoesOn, Halts, IsCoreOf, Steps, is_made},
-  PickedRun.{NoneFollows},
+  CoreSteps.{AllHalt, FirstSteps, GoesOn, Halts, HasMoved, HasPassed, HasTended, HasTurned, IsCoreOf, IsTurnRefused, Steps, is_made, processor_at},
+  PickedRun.{NoneIsNext},
 };
 
 use std::alloc::Global;
@@ -70,8 +70,112 @@ impl Core {
         })
     }
 
-    /// Has a processor make its next step, if it can make one now. Returns whether it did. If so, that step continues the fine run so far;
-    /// if not, no step of that processor may follow. It takes no memory.
+    /// Whether a processor has no thread.
+    fn is_idle(&self, cpu: u8) -> bool
+        requires cpu { cpu < length self.now.processors }
+        ensures idle { result ≡ true → (processor_at self.now cpu).todo ≡ [] }
+        ensures busy { result ≡ false → (processor_at self.now cpu).todo ≢ [] }
+    {
+        self.processors[cpu as usize].is_idle()
+    }
+
+    /// Has a processor take its turn: one without a thread takes one that is ready.
+    #[inline(always)]
+    fn turn(&mut self, image: &Image, cpu: u8) -> Turn
+        requires given { IsGiven image.now }
+        requires rodata { self.old.sites.rodata ≡ rodata_of image.now }
+        requires cpu { cpu < length self.old.processors }
+        ensures rodata { self.new.sites.rodata ≡ rodata_of image.now }
+        ensures turn { HasTurned is_turn result image.now cpu self.old self.new }
+    {
+        let processor = &mut self.processors[cpu as usize];
+        processor.step(image, cpu, &mut self.sites)
+    }
+
+    /// Has a processor without a thread take the first mark that is due.
+    fn give(&mut self, image: &Image, cpu: u8) -> Turn
+        requires idle { (processor_at self.old cpu).todo ≡ [] }
+        requires rodata { self.old.sites.rodata ≡ rodata_of image.now }
+        requires cpu { cpu < length self.old.processors }
+        ensures rodata { self.new.sites.rodata ≡ rodata_of image.now }
+        ensures turn { HasTurned is_due_act result image.now cpu self.old self.new }
+    {
+        let processor = &mut self.processors[cpu as usize];
+        processor.give(image, cpu, &mut self.sites)
+    }
+
+    /// Has a processor without a thread let time go on.
+    fn tick(&mut self, image: &Image, cpu: u8) -> Turn
+        requires idle { (processor_at self.old cpu).todo ≡ [] }
+        requires rodata { self.old.sites.rodata ≡ rodata_of image.now }
+        requires cpu { cpu < length self.old.processors }
+        ensures rodata { self.new.sites.rodata ≡ rodata_of image.now }
+        ensures turn { HasTurned is_tick result image.now cpu self.old self.new }
+    {
+        let processor = &mut self.processors[cpu as usize];
+        processor.tick(image, cpu, &mut self.sites)
+    }
+
+    /// Has a processor without a thread let time go on, if no thread runs.
+    fn pass(&mut self, image: &Image, cpu: u8) -> bool
+        requires idle { (processor_at self.old cpu).todo ≡ [] }
+        requires rodata { self.old.sites.rodata ≡ rodata_of image.now }
+        requires cpu { cpu < length self.old.processors }
+        ensures rodata { self.new.sites.rodata ≡ rodata_of image.now }
+        ensures passes { HasPassed result image.now cpu self.old self.new }
+    {
+        if self.sites.scheduler_cell().running() > 0 {
+            return false;
+        }
+        is_made(self.tick(image, cpu))
+    }
+
+    /// Has a processor without a thread, where none is ready, tend to time: it takes the first mark that is due. Where none is due and no
+    /// thread runs, it lets time go on.
+    fn tend(&mut self, image: &Image, cpu: u8) -> bool
+        requires idle { (processor_at self.old cpu).todo ≡ [] }
+        requires rodata { self.old.sites.rodata ≡ rodata_of image.now }
+        requires cpu { cpu < length self.old.processors }
+        ensures rodata { self.new.sites.rodata ≡ rodata_of image.now }
+        ensures tends { HasTended result image.now cpu self.old self.new }
+    {
+        match self.give(image, cpu) {
+            Turn::Made => true,
+            Turn::Busy => self.pass(image, cpu),
+            Turn::Changed | Turn::Stuck => false,
+        }
+    }
+
+    /// Has a processor that its turn left without a step tend to time, if it has no thread.
+    #[inline(never)]
+    fn tend_if_idle(&mut self, image: &Image, cpu: u8) -> bool
+        requires refused { (e : FineStep) × IsTurnRefused image.now self.old cpu e }
+        requires rodata { self.old.sites.rodata ≡ rodata_of image.now }
+        requires cpu { cpu < length self.old.processors }
+        ensures rodata { self.new.sites.rodata ≡ rodata_of image.now }
+        ensures moves { HasMoved result image.now cpu self.old self.new }
+    {
+        self.is_idle(cpu) && self.tend(image, cpu)
+    }
+
+    /// Has a processor make its next step that is chosen, if it has one.
+    #[inline(always)]
+    fn advance(&mut self, image: &Image, cpu: u8) -> bool
+        requires given { IsGiven image.now }
+        requires rodata { self.old.sites.rodata ≡ rodata_of image.now }
+        requires cpu { cpu < length self.old.processors }
+        ensures rodata { self.new.sites.rodata ≡ rodata_of image.now }
+        ensures moves { HasMoved result image.now cpu self.old self.new }
+    {
+        match self.turn(image, cpu) {
+            Turn::Made => true,
+            Turn::Busy => self.tend_if_idle(image, cpu),
+            Turn::Changed | Turn::Stuck => false,
+        }
+    }
+
+    /// Has a processor make its next step, if it can make one now that is chosen. Returns whether it did. If so, that step continues the fine
+    /// run so far; if not, no step of that processor is next. It takes no memory.
     #[inline(always)]
     pub fn step(&mut self, image: &Image, cpu: u8) -> bool
         requires given { IsGiven image.now }
@@ -84,12 +188,10 @@ impl Core {
         ensures goes { (cpus : ℕ) (done : List FineStep) → IsCoreOf image.now cpus done self.old
             → cpu < cpus → result ≡ true → GoesOn image.now cpus done cpu self.new }
         ensures none { (cpus : ℕ) (done : List FineStep) → IsCoreOf image.now cpus done self.old
-            → cpu < cpus → result ≡ false → NoneFollows image.now cpus done cpu }
+            → cpu < cpus → result ≡ false → NoneIsNext image.now cpus done cpu }
     {
         longest_fine_run();
-        let processor = &mut self.processors[cpu as usize];
-        let turn = processor.step(image, cpu, &mut self.sites);
-        is_made(turn)
+        self.advance(image, cpu)
     }
 
     /// Has the first processor that can make a step now make it, from this one on, going round. Returns whether one did.

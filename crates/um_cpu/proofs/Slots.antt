@@ -28,3 +28,11 @@ heap-kind n c sort = absurd (cc)
 pub scheduler-kind : (n : ℕ) (c : Cell) → IsTrue (is_sort Site.scheduler (SiteState.cell n c)) → kind_of c ≡ CellKind.Scheduler
 scheduler-kind n (Cell.scheduler s) sort = refl
 scheduler-kind n c sort = absurd (cc)
+
+pub joins-kind : (n : ℕ) (c : Cell) → IsTrue (is_sort Site.joins (SiteState.cell n c)) → kind_of c ≡ CellKind.Join
+joins-kind n (Cell.joins j) sort = refl
+joins-kind n c sort = absurd (cc)
+
+pub object-kind : (x n : ℕ) (c : Cell) → IsTrue (is_sort (Site.object x) (SiteState.cell n c)) → kind_of c ≡ CellKind.Object
+object-kind x n (Cell.object o) sort = refl
+object-kind x n c sort = absurd (cc)

@@ -1,12 +1,13 @@
 -- A processor at a board, as one value, and what its turns make of it.
-use Rattle.std.specs.Prelude.{ℕ}
+use Rattle.std.specs.Prelude.{◌≡◌, ℕ}
 use Rattle.um_base.specs.declared.image.Image.{Image}
 use Rattle.um_invariants.specs.Described.{IsDescribed}
 use Rattle.um_refinement.specs.Room.{CanRun}
 use Rattle.um_steps.specs.Given.{IsGiven}
 use Rattle.um_processor.specs.Standing.{whole}
 use Rattle.um_board.specs.Placed.{IsAt}
-use Rattle.um_cpu.specs.Cpus.{Advances, HadWork, HasAsked, Plays, Rests, Stands}
+use Rattle.um_board.specs.Seated.{Unnoted}
+use Rattle.um_cpu.specs.Cpus.{Advances, HadWork, HasAsked, HasTended, LetsStand, Plays, Rests, Stands}
 use Rattle.um_cpu.specs.declared.cpu.Cpu.{Cpu}
 
 -- it is as its steps so far have left it
@@ -28,6 +29,17 @@ GoesOnTo image c d = Advances image c.number (whole c.processor) c.place.seat c.
 -- it has asked once for its next step
 abbrev pub AskedOnce : Image → Cpu → Cpu → Type 0
 AskedOnce image c d = HasAsked image c.number (whole c.processor) (whole d.processor) c.place.seat c.place.log.items d.place.seat d.place.log.items
+
+-- it has tended to time
+abbrev pub Tended : Image → Cpu → Cpu → Type 0
+Tended image c d = HasTended image c.number (whole c.processor) (whole d.processor) c.place.seat c.place.log.items d.place.seat d.place.log.items
+
+-- it stands where it stood, though its seat has read words, and lets time stand
+abbrev pub Waited : Image → Cpu → Cpu → ℕ → Type 0
+Waited image c d word =
+    (whole d.processor ≡ whole c.processor)
+    × Unnoted c.place.seat c.place.log.items d.place.seat d.place.log.items
+    × LetsStand image c.number (whole c.processor) c.place.seat d.place.seat word
 
 -- it had something to do, and asked for it
 abbrev pub Worked : Image → Cpu → Cpu → Type 0

@@ -19,8 +19,8 @@ standing closed = board_at (slots_items closed.table.words) (slots_items closed.
 
 -- There is a word for each site and a slot for each cell, and at each site stands a state of the site's sort.
 pub record IsReadable (closed : Closed Known) : Type 0 where
-  pub words : slots_len closed.table.words ≡ 307
-  pub slots : slots_len closed.table.slots ≡ 139
+  pub words : slots_len closed.table.words ≡ 309
+  pub slots : slots_len closed.table.slots ≡ 141
   pub sorted : (i : Site) → IsTrue (is_site i) → IsTrue (is_sort i (standing closed i))
 
 -- The events are a complete run, and the state that is read off the board agrees with its last state in all that a dump reads.

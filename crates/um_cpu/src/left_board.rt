@@ -7,6 +7,7 @@ ghost use Rattle.um_board.specs.{Kept.{cell_of}, Turned.{kind_of}};
 ghost use Rattle.um_cpu.specs.Standing.{IsReadable};
 ghost use Rattle.um_fine.specs.Cells.{Cell};
 ghost use Rattle.um_history.specs.Left.{in_slot};
+ghost use Rattle.um_tables.specs.ObjectCells.{cleared, kept_in};
 ghost use Rattle.um_words.specs.declared.kind.CellKind.{CellKind};
 
 use um_base::{Mode, Parts};
@@ -14,13 +15,13 @@ use um_board::{Contents, Kept};
 use um_closing::ReadSites;
 use um_machine::Life;
 use um_site::Closed;
-use um_tables::{Bytes, Heap, ObjectCell, Scheduler};
+use um_tables::{Bytes, Heap, Joins, ObjectCell, Scheduler};
 use um_words::{RowWord, ThreadWord};
 
 /// The site of the first thread.
 const FIRST_THREAD: u16 = 128;
 
-/// The slots of the cells of the first domain, of the memory, the heap and the scheduler.
+/// The slots of the cells of the first domain, of the memory, the heap, the scheduler and the joins.
 const FIRST_DOMAIN: u16 = 128;
 
 const MEMORY: u16 = 136;
@@ -29,6 +30,8 @@ const HEAP: u16 = 137;
 
 const SCHEDULER: u16 = 138;
 
+const JOINS: u16 = 140;
+
 /// The word of a thread index where nothing was started.
 const UNBORN: ThreadWord = ThreadWord {
     life: Life::Unborn,
@@ -36,8 +39,23 @@ const UNBORN: ThreadWord = ThreadWord {
     held: false,
     mode: Mode::User,
     domain: 0,
+    aborted: false,
+    suspended: false,
+    note: None,
     number: 0,
 };
+
+/// The cell of an object, which is kept here. `None` stands for one that keeps nothing.
+fn object_in(kept: &Kept) -> Option<&ObjectCell>
+    requires { kind_of (cell_of kept.now) ≡ CellKind.Object }
+    ensures { MatchOption result (cell_of kept.now ≡ Cell.object (kept_in (cleared 0)))
+        (λ cell. cell_of kept.now ≡ Cell.object (kept_in cell.now)) }
+{
+    match kept {
+        Kept::Object(room) => room.cell(),
+        _ => unreachable!(),
+    }
+}
 
 /// The bytes of the memory, which are kept here.
 fn memory_in(kept: &Kept) -> &Bytes
@@ -72,6 +90,17 @@ fn scheduler_in(kept: &Kept) -> &Scheduler
     }
 }
 
+/// The contents of the joins' cell, which are kept here.
+fn joins_in(kept: &Kept) -> &Joins
+    requires { kind_of (cell_of kept.now) ≡ CellKind.Join }
+    ensures { cell_of kept.now ≡ Cell.joins result.now }
+{
+    match kept {
+        Kept::Joins(joins) => joins,
+        _ => unreachable!(),
+    }
+}
+
 /// A closed board on which processors have played, read where it lies.
 #[derive(Drop)]
 pub struct LeftBoard<'a> {
@@ -90,7 +119,7 @@ impl<'a> LeftBoard<'a> {
 
     /// What a cell keeps, if its slot is filled.
     fn kept(&self, slot: u16) -> Option<&Kept>
-        requires { slot < 139 }
+        requires { slot < 141 }
         ensures { let there = in_slot (get_elem? (slots_items self.now.closed.now.table.slots) slot) in
             MatchOption result (there ≡ Cell.parts None) (λ kept. there ≡ cell_of kept.now) }
     {
@@ -129,8 +158,8 @@ impl<'a> ReadSites for LeftBoard<'a> {
 
     fn read_object(&self, row: usize) -> Option<&ObjectCell> {
         match self.kept(row as u16) {
-            Some(Kept::Object(room)) => room.cell(),
-            _ => None,
+            Some(kept) => object_in(kept),
+            None => unreachable!(),
         }
     }
 
@@ -151,6 +180,13 @@ impl<'a> ReadSites for LeftBoard<'a> {
     fn read_scheduler(&self) -> &Scheduler {
         match self.kept(SCHEDULER) {
             Some(kept) => scheduler_in(kept),
+            None => unreachable!(),
+        }
+    }
+
+    fn read_joins(&self) -> &Joins {
+        match self.kept(JOINS) {
+            Some(kept) => joins_in(kept),
             None => unreachable!(),
         }
     }

@@ -28,11 +28,12 @@ pub struct Ended {
     pub closed: Closed<Contents>,
 }
 
-/// The processor of this number takes its turns.
+/// The processor of this number, one of this many, takes its turns.
 fn play<R: Wait, G: Gate>(
     rt: &R,
     image: &Image,
     board: &Board<Contents, NextStep>,
+    cpus: usize,
     number: usize,
     cpu: &mut Cpu<'_>,
     gate: &G,
@@ -40,11 +41,11 @@ fn play<R: Wait, G: Gate>(
     requires given { IsGiven image.now }
     requires described { IsDescribed image.now }
     requires can { CanRun image.now 8 }
-    requires begins { Begins image.now board.now.table.shared.table_id number cpu.old }
-    ensures { Ends image.now board.now.table.shared.table_id number cpu.new }
+    requires begins { Begins image.now board.now.table.shared.table_id cpus number cpu.old }
+    ensures { Ends image.now board.now.table.shared.table_id cpus number cpu.new }
 {
     let _ = board;
-    let _ = number;
+    let _ = (cpus, number);
     turns(rt, image, cpu, gate);
 }
 
@@ -59,51 +60,55 @@ fn run_all<R: Threads + Wait + Sync, G: Gate + Sync>(
     requires given { IsGiven image.now }
     requires described { IsDescribed image.now }
     requires can { CanRun image.now 8 }
-    requires begins { EachAt (Begins image.now board.now.table.shared.table_id) cpus.old }
-    ensures ends { EachAt (Ends image.now board.now.table.shared.table_id) cpus.new }
+    requires begins { EachAt (Begins image.now board.now.table.shared.table_id (length cpus.old)) cpus.old }
+    ensures ends { EachAt (Ends image.now board.now.table.shared.table_id (length cpus.old)) cpus.new }
     ensures count { length cpus.new ≡ length cpus.old }
 {
+    let count = cpus.len();
     thread::for_each_mut(
         rt,
         cpus,
         PROCESSORS,
         &|k, cpu: &mut Cpu<'_>|
             requires { IsGiven image.now × IsDescribed image.now × CanRun image.now 8
-                × Begins image.now board.now.table.shared.table_id k cpu.now }
-            ensures { Ends image.entry.now board.entry.now.table.shared.table_id k cpu.exit.now }
-        { play(rt, image, board, k, cpu, gate) },
+                × Begins image.now board.now.table.shared.table_id count k cpu.now }
+            ensures { Ends image.entry.now board.entry.now.table.shared.table_id count k cpu.exit.now }
+        { play(rt, image, board, count, k, cpu, gate) },
     );
 }
 
-/// Joins the processors' seats, and collects their logs, for which there is room.
+/// Joins the seats of the other processors to that of the first one, which it returns, and collects the logs, for which there is room.
 fn gather(
     image: &Image,
     board: &Board<Contents, NextStep>,
-    seat: &mut Seat<Contents>,
     cpus: &mut Vec<Cpu<'_>>,
     logs: &mut Vec<Log>,
-)
-    requires ends { EachAt (Ends image.now board.now.table.shared.table_id) cpus.old.items }
-    requires seat { Gathered image.now board.now.table.shared.table_id seat.old (length cpus.old.items)
-        (length cpus.old.items) [] }
+) -> Seat<Contents>
+    requires ends { EachAt (Ends image.now board.now.table.shared.table_id (length cpus.old.items))
+        cpus.old.items }
+    requires some { 1 ≤ length cpus.old.items }
     requires few { length cpus.old.items ≤ 8 }
     requires empty { logs.old.items ≡ [] }
     requires room { length cpus.old.items ≤ vec_capacity logs.old }
-    ensures { Gathered image.now board.now.table.shared.table_id seat.new 0
-        (length cpus.old.items) logs.new.items }
+    ensures { Gathered image.now board.now.table.shared.table_id result (length cpus.old.items)
+        logs.new.items }
 {
     let _ = image;
-    'cpus: while let Some(cpu) = cpus.pop() {
-        let Cpu {
-            number: _,
-            processor: _,
-            place,
-        } = cpu;
-        let (own, log) = place.into_parts();
-        board.join(seat, own);
+    while cpus.len() > 1 {
+        let Some(cpu) = cpus.pop() else {
+            unreachable!()
+        };
+        let (own, log) = cpu.place.into_parts();
+        board.join(&mut cpus[0].place.seat, own);
         logs.push_reserved(log);
     }
+    let Some(first) = cpus.pop() else {
+        unreachable!()
+    };
+    let (seat, log) = first.place.into_parts();
+    logs.push_reserved(log);
     logs.reverse();
+    seat
 }
 
 /// Runs this many processors on a board of the image to their end, each in a thread of its own if one can be made. Each log has room for
@@ -127,19 +132,19 @@ pub fn run_cpus<R: Threads + Wait + Sync, G: Gate + Sync>(
     let _domains = image.domains.len();
     let bytes = rodata(alloc, image)?;
     let mut logs = Vec::with_capacity(alloc, cpus as usize)?;
-    let (board, mut seat, cells) = opening(alloc, image)?;
+    let (board, seat, cells) = opening(alloc, image, most.saturating_add(1))?;
     let mut all = seats(
         alloc,
         image,
         &board,
         &cells,
         bytes.as_slice(),
-        &mut seat,
+        seat,
         cpus,
         most,
     )?;
     run_all(rt, image, &board, all.as_mut_slice(), gate);
-    gather(image, &board, &mut seat, &mut all, &mut logs);
+    let seat = gather(image, &board, &mut all, &mut logs);
     drop(all);
     let Ok(closed) = board.close(seat) else {
         unreachable!()

@@ -2,6 +2,7 @@
 use Rattle.std.proofs.Common.{◌≡◌, ℕ, ◌+◌, ◌<◌, suc, length, get_or, drop, add-one, drop-cons, true, false, List, [], ◌∷◌, ◌++◌, Bool, Option, Some, None, is_some, map, refl, sym, ap, ◌∙◌}
 use Rattle.um_document.specs.declared.description.BootEntry.{BootEntry}
 use Rattle.um_document.specs.declared.description.DomainEntry.{DomainEntry}
+use Rattle.um_document.specs.declared.description.FutexEntry.{FutexEntry}
 use Rattle.um_document.specs.declared.description.PartitionEntry.{PartitionEntry}
 use Rattle.um_document.specs.declared.description.VariableEntry.{VariableEntry}
 use Rattle.um_document.specs.declared.place.Place.{Place}
@@ -9,7 +10,7 @@ use Rattle.um_document.specs.declared.shape.Key.{Key}
 use Rattle.um_document.specs.declared.shape.Section.{Section}
 use Rattle.um_document.specs.First.{first_of}
 use Rattle.um_description.specs.Names.{Text, is_among, variables_of, variable_names, names_within}
-use Rattle.um_description.specs.Duplicates.{SameTexts, names_again, variables_again, partition_again, partitions_again, parts_again, domain_again, domains_again, boot_again, boots_again, added}
+use Rattle.um_description.specs.Duplicates.{SameTexts, names_again, variables_again, partition_again, partitions_again, parts_again, domain_again, domains_again, boot_again, boots_again, spot_text, futex_again, futexes_again, added}
 
 pub same_one_more : (text : Text) (a b : List Text) → SameTexts a b → SameTexts (text ∷ a) (text ∷ b)
 same_one_more text a b h q = rw (h q) refl
@@ -233,3 +234,28 @@ pub boot_here : (threads stacks : List Text) (xs : List BootEntry) (i k : ℕ) (
 boot_here threads stacks xs i k x found total lt at is there so_far =
     sym (front (boot_again threads stacks i x) (boots_again (x.thread ∷ threads) (x.stack ∷ stacks) (i + 1) (drop (k + 1) xs)) found is there)
     ∙ ap (λ ys. first_of (boots_again threads stacks i ys)) (sym (cut_at xs k x lt at)) ∙ so_far
+
+same_futex : (a b c e : List Text) → SameTexts a b → SameTexts c e → (i : ℕ) (x : FutexEntry) → futex_again a c i x ≡ futex_again b e i x
+same_futex a b c e h g i x = rw (h x.name, g (spot_text x)) refl
+
+pub same_futexes : (a b c e : List Text) → SameTexts a b → SameTexts c e → (i : ℕ) (xs : List FutexEntry) → futexes_again a c i xs ≡ futexes_again b e i xs
+same_futexes a b c e h g i [] = refl
+same_futexes a b c e h g i (x ∷ xs) =
+    rw (
+      same_futex a b c e h g i x,
+      same_futexes (x.name ∷ a) (x.name ∷ b) (spot_text x ∷ c) (spot_text x ∷ e) (same_one_more x.name a b h) (same_one_more (spot_text x) c e g) (i + 1) xs,
+    ) refl
+
+pub futex_step : (names spots after_names after_spots : List Text) (xs : List FutexEntry) (i k : ℕ) (x : FutexEntry) (found total : Option Place) → k < length xs → x ≡ get_or xs k x
+    → found ≡ first_of (futex_again names spots i x) → is_some found ≡ false → SameTexts after_names (x.name ∷ names) → SameTexts after_spots (spot_text x ∷ spots)
+    → first_of (futexes_again names spots i (drop k xs)) ≡ total → first_of (futexes_again after_names after_spots (i + 1) (drop (k + 1) xs)) ≡ total
+futex_step names spots after_names after_spots xs i k x found total lt at is gone put_name put_spot so_far =
+    ap first_of (same_futexes after_names (x.name ∷ names) after_spots (spot_text x ∷ spots) put_name put_spot (i + 1) (drop (k + 1) xs))
+    ∙ sym (behind (futex_again names spots i x) (futexes_again (x.name ∷ names) (spot_text x ∷ spots) (i + 1) (drop (k + 1) xs)) found is gone)
+    ∙ ap (λ ys. first_of (futexes_again names spots i ys)) (sym (cut_at xs k x lt at)) ∙ so_far
+
+pub futex_here : (names spots : List Text) (xs : List FutexEntry) (i k : ℕ) (x : FutexEntry) (found total : Option Place) → k < length xs → x ≡ get_or xs k x
+    → found ≡ first_of (futex_again names spots i x) → is_some found ≡ true → first_of (futexes_again names spots i (drop k xs)) ≡ total → found ≡ total
+futex_here names spots xs i k x found total lt at is there so_far =
+    sym (front (futex_again names spots i x) (futexes_again (x.name ∷ names) (spot_text x ∷ spots) (i + 1) (drop (k + 1) xs)) found is there)
+    ∙ ap (λ ys. first_of (futexes_again names spots i ys)) (sym (cut_at xs k x lt at)) ∙ so_far

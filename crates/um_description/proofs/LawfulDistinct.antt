@@ -7,12 +7,13 @@ use Rattle.std.proofs.lemmas.Bool.Decides.{nat_tests}
 use Rattle.um_base.specs.Lawful.{are_distinct, are_distinct_names}
 use Rattle.um_document.specs.declared.description.BootEntry.{BootEntry}
 use Rattle.um_document.specs.declared.description.DomainEntry.{DomainEntry}
+use Rattle.um_document.specs.declared.description.FutexEntry.{FutexEntry}
 use Rattle.um_document.specs.declared.description.PartitionEntry.{PartitionEntry}
 use Rattle.um_document.specs.declared.description.VariableEntry.{VariableEntry}
 use Rattle.um_document.specs.declared.place.Place.{Place}
 use Rattle.um_document.specs.declared.shape.Key.{Key}
 use Rattle.um_document.specs.declared.shape.Section.{Section}
-use Rattle.um_description.specs.Duplicates.{if_again, names_again, variables_again, partition_again, partitions_again, parts_again, domain_again, domains_again, boot_again, boots_again, added}
+use Rattle.um_description.specs.Duplicates.{if_again, names_again, variables_again, partition_again, partitions_again, parts_again, domain_again, domains_again, boot_again, boots_again, spot_text, futex_again, futexes_again, added}
 use Rattle.um_description.specs.Names.{Text, is_among, items, named, variables_of, variable_names, names_within}
 use Rattle.um_description.specs.Resolve.{number_named}
 use Rattle.um_description.proofs.LawfulLists.{no_front, no_back, and_true, both_true, not_true, none_if, or_more, same_text, text_itself}
@@ -71,6 +72,25 @@ new_boots threads stacks i (b ∷ bs) h =
     let rest = new_boots (b.thread ∷ threads) (b.stack ∷ stacks) (i + 1) bs (no_back (boot_again threads stacks i b) back h) in (
       both_true (not (is_among b.thread threads)) (are_new (b.thread ∷ threads) (map boot_thread bs)) (one_new threads at_thread b.thread (no_front thread stack own)) rest.0,
       both_true (not (is_among b.stack stacks)) (are_new (b.stack ∷ stacks) (map boot_stack bs)) (one_new stacks at_stack b.stack (no_back thread stack own)) rest.1,
+    )
+
+abbrev pub futex_name : FutexEntry → Text
+futex_name f = f.name
+
+-- the names of futexes, and where they lie
+pub new_futexes : (names spots : List Text) (i : ℕ) (fs : List FutexEntry) → futexes_again names spots i fs ≡ []
+    → IsTrue (are_new names (map futex_name fs)) × IsTrue (are_new spots (map spot_text fs))
+new_futexes names spots i [] h = (refl, refl)
+new_futexes names spots i (f ∷ fs) h =
+    let at_name = Place.Field Section.Futex i Key.Name in
+    let at_spot = Place.Field Section.Futex i Key.Offset in
+    let name = if_again names at_name f.name in
+    let spot = if_again spots at_spot (spot_text f) in
+    let back = futexes_again (f.name ∷ names) (spot_text f ∷ spots) (i + 1) fs in
+    let own = no_front (futex_again names spots i f) back h in
+    let rest = new_futexes (f.name ∷ names) (spot_text f ∷ spots) (i + 1) fs (no_back (futex_again names spots i f) back h) in (
+      both_true (not (is_among f.name names)) (are_new (f.name ∷ names) (map futex_name fs)) (one_new names at_name f.name (no_front name spot own)) rest.0,
+      both_true (not (is_among (spot_text f) spots)) (are_new (spot_text f ∷ spots) (map spot_text fs)) (one_new spots at_spot (spot_text f) (no_back name spot own)) rest.1,
     )
 
 -- names behind others
@@ -172,7 +192,7 @@ new_partitions before i (p ∷ ps) h =
 
 -- ---- new texts are distinct
 
-not_false : (a : Bool) → IsTrue (not a) → a ≡ false
+pub not_false : (a : Bool) → IsTrue (not a) → a ≡ false
 not_false true h = absurd (false≢true h)
 not_false false h = refl
 

@@ -15,21 +15,23 @@ use Rattle.um_document.specs.declared.description.Description.{Description}
 use Rattle.um_document.specs.declared.description.DomainEntry.{DomainEntry}
 use Rattle.um_document.specs.declared.description.ScriptEntry.{ScriptEntry}
 use Rattle.um_description.specs.declared.flaw.Flaw.{Flaw}
-use Rattle.um_description.specs.Duplicates.{added, duplicates}
+use Rattle.um_description.specs.Duplicates.{added, spot_text, duplicates}
 use Rattle.um_description.specs.Flaws.{too_heavy, too_large, image_flaws, flaws, meaning_by, meaning}
 use Rattle.um_document.specs.Faults.{ReadsDocument}
 use Rattle.um_document.specs.LawfulNames.{AreLawfulNames}
 use Rattle.um_document.proofs.LawfulForm.{read_lawful}
 use Rattle.um_document.specs.declared.description.PartitionEntry.{PartitionEntry}
-use Rattle.um_description.specs.Limits.{top_limits, pool_limits, partition_limits, domain_limits, objects_limits, boot_limits, script_limits, limits, most_parts}
+use Rattle.um_description.specs.Limits.{top_limits, pool_limits, partition_limits, domain_limits, objects_limits, boot_limits, script_limits, futex_limits, limits, most_parts}
 use Rattle.um_description.specs.Lines.{unread_lines, blocks_of, unknown_in_script, misordered_script}
 use Rattle.um_description.specs.Names.{each, names_within, pool_names, partition_names}
 use Rattle.um_description.specs.Numbers.{natural}
 use Rattle.um_description.specs.Packing.{asked_size}
 use Rattle.um_description.specs.Resolve.{asked_partitions, asked_stacks, partition_sizes, stack_sizes, placed, placed_partitions, domain_of, script_of, without_scripts, image_of}
-use Rattle.um_description.specs.Unknown.{unknown_in_domain, unknown_in_boot, unknown_names}
+use Rattle.um_description.specs.Unknown.{unknown_in_domain, unknown_in_boot, unknown_in_futex, unknown_names}
 use Rattle.um_description.proofs.LawfulBoots.{boots_lawful, threads_once, stacks_once}
+use Rattle.um_description.proofs.LawfulDistinct.{distinct_names}
 use Rattle.um_description.proofs.LawfulDomains.{domains_lawful}
+use Rattle.um_description.proofs.LawfulFutexes.{all_lie, futexes_lawful, futexes_apart}
 use Rattle.um_description.proofs.LawfulLayout.{length_starting, length_ranges, placed_lawful, has_room, ranges_of_partitions, partitions_lawful}
 use Rattle.um_description.proofs.LawfulLines.{AreAsMany}
 use Rattle.um_description.proofs.LawfulLists.{no_front, no_back, none_mapped, none_if, length_mapped}
@@ -97,6 +99,7 @@ pub record AreWithin (d : Description) : Type 0 where
   pub objects : objects_limits 0 0 d.objects ≡ []
   pub boots : each boot_limits 0 d.boots ≡ []
   pub scripts : each script_limits 0 d.scripts ≡ []
+  pub futexes : each (futex_limits d.partitions) 0 d.futexes ≡ []
 
 pub all_within : (d : Description) → limits d ≡ [] → AreWithin d
 all_within d h =
@@ -107,8 +110,18 @@ all_within d h =
     let f = objects_limits 0 0 d.objects in
     let g = each boot_limits 0 d.boots in
     let k = each script_limits 0 d.scripts in
-    let none = seven_empty a b c e f g k h in
-    record { top = none.0; pools = none.1; partitions = none.2; domains = none.3; objects = none.4; boots = none.5; scripts = none.6 }
+    let l = each (futex_limits d.partitions) 0 d.futexes in
+    let none = seven_empty a b c e f g k (no_front (a ++ b ++ c ++ e ++ f ++ g ++ k) l h) in
+    record {
+      top = none.0;
+      pools = none.1;
+      partitions = none.2;
+      domains = none.3;
+      objects = none.4;
+      boots = none.5;
+      scripts = none.6;
+      futexes = no_back (a ++ b ++ c ++ e ++ f ++ g ++ k) l h;
+    }
 
 -- ---- the image
 
@@ -148,11 +161,14 @@ most_by n h = let most = h.most in ap (λ (k : ℕ). min DOMAIN_PARTITIONS (k - 
 light_by : (n : ℕ) → nat_lt MOST_WEIGHT n ≡ false → n ≤ MOST_WEIGHT
 light_by n h = grind (arith, nat_tests)
 
+known_before_futexes : (d : Description) → HasNoFlaws d → each (unknown_in_domain d) 0 d.domains ++ each (unknown_in_boot d) 0 d.boots ≡ []
+known_before_futexes d h = no_front (each (unknown_in_domain d) 0 d.domains ++ each (unknown_in_boot d) 0 d.boots) (each (unknown_in_futex d) 0 d.futexes) h.names_known
+
 domains_within : (d : Description) → AreWithin d → HasNoFlaws d → IsTrue (list_all (λ (m : DomainDef). are_lawful_parts (lawful.most_parts (image_of d)) (length (image_of d).partitions) m.parts) (image_of d).domains)
 domains_within d w h =
     let before = added (added [] (pool_names d)) (names_within d.partitions) in
     let few = domains_lawful d (most_parts d.regions) (length (image_of d).partitions) 0 before d.domains (as_many d).partitions w.domains
-    (no_front (each (unknown_in_domain d) 0 d.domains) (each (unknown_in_boot d) 0 d.boots) h.names_known) (no_duplicates d h.names_new).domains in
+    (no_front (each (unknown_in_domain d) 0 d.domains) (each (unknown_in_boot d) 0 d.boots) (known_before_futexes d h)) (no_duplicates d h.names_new).domains in
     subst (λ (most : ℕ). IsTrue (list_all (λ (m : DomainDef). are_lawful_parts most (length (image_of d).partitions) m.parts) (image_of d).domains)) (most_by (natural d.regions) (regions_in d w.top)) few
 
 pub lawful_image : (d : Description) → AreLawfulNames d → flaws d ≡ [] → IsLawful (image_of d)
@@ -167,7 +183,8 @@ lawful_image d words none =
     let large = too_large false (sum (partition_sizes d)) in
     let high = too_large true (sum (stack_sizes d)) in
     let areas = no_front (heavy ++ large) high h.image in
-    let booted = no_back (each (unknown_in_domain d) 0 d.domains) (each (unknown_in_boot d) 0 d.boots) h.names_known in
+    let booted = no_back (each (unknown_in_domain d) 0 d.domains) (each (unknown_in_boot d) 0 d.boots) (known_before_futexes d h) in
+    let lie = all_lie d 0 d.futexes w.partitions (no_back (each (unknown_in_domain d) 0 d.domains ++ each (unknown_in_boot d) 0 d.boots) (each (unknown_in_futex d) 0 d.futexes) h.names_known) w.futexes in
     record {
       regions = regions_lawful d w.top;
       names = ap (list_all is_name) names ∙ names_lawful d words;
@@ -187,6 +204,8 @@ lawful_image d words none =
       boot_threads = threads_once d d.boots booted new.boots;
       boot_stacks = stacks_once d d.boots booted new.boots;
       scripts = scripts_lawful d ps ss 0 d.scripts (as_many d) (record { limits = w.scripts; read = h.read; blocks = h.blocks; known = h.known; order = h.order });
+      futexes = futexes_lawful d d.futexes lie;
+      futexes_apart = futexes_apart d d.futexes lie (distinct_names [] (map spot_text d.futexes) new.spots);
       light = light_by (weight (image_of d)) (none_if (nat_lt MOST_WEIGHT (weight (image_of d))) Flaw.Weight (no_front heavy large areas));
     }
 

@@ -11,7 +11,8 @@ use Rattle.um_base.specs.declared.names.PartRef.{PartRef}
 use Rattle.um_base.specs.declared.names.Range.{Range}
 use Rattle.um_base.specs.declared.names.Ref.{Ref}
 use Rattle.um_base.specs.declared.names.Term.{Term}
-use Rattle.um_base.specs.Lawful.{is_within, is_register, is_operand, is_number_below, is_later, is_part, is_size, is_dynamic_kind, is_named_attr, is_lawful_line}
+use Rattle.um_base.specs.declared.names.Timeout.{Timeout}
+use Rattle.um_base.specs.Lawful.{is_within, is_register, is_operand, is_number_below, is_later, is_part, is_size, is_dynamic_kind, is_named_attr, is_wait, is_lawful_line}
 use Rattle.um_document.specs.declared.description.Description.{Description}
 use Rattle.um_document.specs.declared.description.ScriptEntry.{ScriptEntry}
 use Rattle.um_script.specs.Writable as writable
@@ -152,6 +153,27 @@ three image d a b c h =
     both_true (is_operand (term_of image d a) && is_operand (term_of image d b)) (is_operand (term_of image d c))
     (both_true (is_operand (term_of image d a)) (is_operand (term_of image d b)) (term_lawful image d a x.0) (term_lawful image d b y.0)) (one image d c y.1)
 
+one_in_time : (image : Image) (d : Description) (a : Term) (w : Timeout) → IsTrue (is_term a && (is_wait w && true)) → IsTrue (is_operand (term_of image d a) && is_wait w)
+one_in_time image d a w h =
+    let x = and_true (is_term a) (is_wait w && true) h in both_true (is_operand (term_of image d a)) (is_wait w) (term_lawful image d a x.0) (first_known (is_wait w) x.1)
+
+two_in_time : (image : Image) (d : Description) (a b : Term) (w : Timeout) → IsTrue (is_term a && (is_term b && (is_wait w && true))) → IsTrue (is_operand (term_of image d a) && is_operand (term_of image d b) && is_wait w)
+two_in_time image d a b w h =
+    let x = and_true (is_term a) (is_term b && (is_wait w && true)) h in
+    let y = and_true (is_term b) (is_wait w && true) x.1 in
+    both_true (is_operand (term_of image d a) && is_operand (term_of image d b)) (is_wait w)
+    (both_true (is_operand (term_of image d a)) (is_operand (term_of image d b)) (term_lawful image d a x.0) (term_lawful image d b y.0)) (first_known (is_wait w) y.1)
+
+three_in_time : (image : Image) (d : Description) (a b c : Term) (w : Timeout) → IsTrue (is_term a && (is_term b && (is_term c && (is_wait w && true))))
+    → IsTrue (is_operand (term_of image d a) && is_operand (term_of image d b) && is_operand (term_of image d c) && is_wait w)
+three_in_time image d a b c w h =
+    let x = and_true (is_term a) (is_term b && (is_term c && (is_wait w && true))) h in
+    let y = and_true (is_term b) (is_term c && (is_wait w && true)) x.1 in
+    let z = and_true (is_term c) (is_wait w && true) y.1 in
+    both_true (is_operand (term_of image d a) && is_operand (term_of image d b) && is_operand (term_of image d c)) (is_wait w)
+    (both_true (is_operand (term_of image d a) && is_operand (term_of image d b)) (is_operand (term_of image d c))
+    (both_true (is_operand (term_of image d a)) (is_operand (term_of image d b)) (term_lawful image d a x.0) (term_lawful image d b y.0)) (term_lawful image d c z.0)) (first_known (is_wait w) z.1)
+
 register_and : (image : Image) (d : Description) (r : ℕ) (a : Term) → IsTrue (is_register r && (is_term a && true)) → IsTrue (is_register r && is_operand (term_of image d a))
 register_and image d r a h =
     let x = and_true (is_register r) (is_term a && true) h in both_true (is_register r) (is_operand (term_of image d a)) x.0 (one image d a x.1)
@@ -251,17 +273,27 @@ line_lawful d ps ss i (Instr.Create thread stack size script priority options) m
 line_lawful d ps ss i (Instr.UserMode script) many h known order = script_lawful d ps ss i 1 script many (first_known (is_named script) h) known order
 line_lawful d ps ss i (Instr.NameSet thread addr) many h known order = two (base d ps ss) d thread addr h
 line_lawful d ps ss i (Instr.SemInit object count limit) many h known order = three (base d ps ss) d object count limit h
-line_lawful d ps ss i (Instr.SemTake object timeout) many h known order = one (base d ps ss) d object h
-line_lawful d ps ss i (Instr.MutexLock object timeout) many h known order = one (base d ps ss) d object h
+line_lawful d ps ss i (Instr.SemTake object timeout) many h known order = one_in_time (base d ps ss) d object timeout h
+line_lawful d ps ss i (Instr.MutexLock object timeout) many h known order = one_in_time (base d ps ss) d object timeout h
 line_lawful d ps ss i (Instr.SemCount object to) many h known order = and_register (base d ps ss) d object to h
 line_lawful d ps ss i (Instr.MsgqUsed object to) many h known order = and_register (base d ps ss) d object to h
 line_lawful d ps ss i (Instr.MsgqInit object size most) many h known order = three (base d ps ss) d object size most h
-line_lawful d ps ss i (Instr.MsgqPut object addr timeout) many h known order = two (base d ps ss) d object addr h
-line_lawful d ps ss i (Instr.MsgqGet object addr timeout) many h known order = two (base d ps ss) d object addr h
-line_lawful d ps ss i (Instr.StackPop object addr timeout) many h known order = two (base d ps ss) d object addr h
+line_lawful d ps ss i (Instr.MsgqPut object addr timeout) many h known order = two_in_time (base d ps ss) d object addr timeout h
+line_lawful d ps ss i (Instr.MsgqGet object addr timeout) many h known order = two_in_time (base d ps ss) d object addr timeout h
+line_lawful d ps ss i (Instr.StackPop object addr timeout) many h known order = two_in_time (base d ps ss) d object addr timeout h
 line_lawful d ps ss i (Instr.MsgqPeek object addr) many h known order = two (base d ps ss) d object addr h
 line_lawful d ps ss i (Instr.StackInit object entries) many h known order = two (base d ps ss) d object entries h
 line_lawful d ps ss i (Instr.StackPush object value) many h known order = two (base d ps ss) d object value h
 line_lawful d ps ss i (Instr.PipeInit object size) many h known order = two (base d ps ss) d object size h
-line_lawful d ps ss i (Instr.PipeWrite object addr n timeout) many h known order = three (base d ps ss) d object addr n h
-line_lawful d ps ss i (Instr.PipeRead object addr n timeout) many h known order = three (base d ps ss) d object addr n h
+line_lawful d ps ss i (Instr.PipeWrite object addr n timeout) many h known order = three_in_time (base d ps ss) d object addr n timeout h
+line_lawful d ps ss i (Instr.PipeRead object addr n timeout) many h known order = three_in_time (base d ps ss) d object addr n timeout h
+line_lawful d ps ss i (Instr.TimerStart object ticks) many h known order = two (base d ps ss) d object ticks h
+line_lawful d ps ss i (Instr.TimerStop object) many h known order = one (base d ps ss) d object h
+line_lawful d ps ss i (Instr.TimerStatus object to) many h known order = and_register (base d ps ss) d object to h
+line_lawful d ps ss i (Instr.TimerSync object to) many h known order = and_register (base d ps ss) d object to h
+line_lawful d ps ss i (Instr.Abort thread) many h known order = one (base d ps ss) d thread h
+line_lawful d ps ss i (Instr.Join thread timeout) many h known order = one_in_time (base d ps ss) d thread timeout h
+line_lawful d ps ss i (Instr.Suspend thread) many h known order = one (base d ps ss) d thread h
+line_lawful d ps ss i (Instr.Continue thread) many h known order = one (base d ps ss) d thread h
+line_lawful d ps ss i (Instr.FutexWait addr value timeout) many h known order = two_in_time (base d ps ss) d addr value timeout h
+line_lawful d ps ss i (Instr.FutexWake addr all) many h known order = one (base d ps ss) d addr h

@@ -45,6 +45,7 @@ by_details range x t name public (Details.Mutex init) = record { name = refl; th
 by_details range x t name public (Details.Msgq numbers) = record { name = refl; thread = refl; stack = refl }
 by_details range x t name public (Details.Stack entries) = record { name = refl; thread = refl; stack = refl }
 by_details range x t name public (Details.Pipe size) = record { name = refl; thread = refl; stack = refl }
+by_details range x t name public Details.Timer = record { name = refl; thread = refl; stack = refl }
 
 pub of_entry : (range : Range) (x t : ℕ) (o : ObjectEntry) → IsOfEntry range x t o
 of_entry range x t o = by_details range x t o.name o.public o.details
@@ -152,6 +153,7 @@ objects_by mpu places i x t name public (Details.Stack entries) os h same later 
     both_true (is_setup_of mpu Kind.Stack (stack_setup entries)) (list_all (has_setup mpu) (objects_from (ranges_at places (stacks_asked mpu os)) (x + 1) t os)) (stack_lawful mpu i entries h) (later places (x + 1) t same)
 objects_by mpu places i x t name public (Details.Pipe size) os h same later =
     both_true (is_setup_of mpu Kind.Pipe (pipe_setup size)) (list_all (has_setup mpu) (objects_from (ranges_at places (stacks_asked mpu os)) (x + 1) t os)) (pipe_lawful mpu i size h) (later places (x + 1) t same)
+objects_by mpu places i x t name public Details.Timer os h same later = later places (x + 1) t same
 
 pub objects_lawful : (mpu : Mpu) (threads i : ℕ) (os : List ObjectEntry) → objects_limits threads i os ≡ [] → LaterLawful mpu os
 objects_lawful mpu threads i [] h places x t same = refl
@@ -178,6 +180,7 @@ indices_by t x range name public (Details.Stack None) os later = later
 indices_by t x range name public (Details.Stack (Some entries)) os later = later
 indices_by t x range name public (Details.Pipe None) os later = later
 indices_by t x range name public (Details.Pipe (Some size)) os later = later
+indices_by t x range name public Details.Timer os later = later
 
 few_threads : (t : ℕ) (thread : Bool) → t ≤ STATIC_THREADS → (thread && t == STATIC_THREADS) ≡ false → (if thread then t + 1 else t) ≤ STATIC_THREADS
 few_threads t true h k = one_more_thread t h k
@@ -206,6 +209,7 @@ rows_by t x range name public (Details.Stack None) os later = both_true (row_add
 rows_by t x range name public (Details.Stack (Some entries)) os later = both_true (row_addr x == row_addr x) (stand_in_rows os (x + 1)) (eq-eqb (row_addr x) (row_addr x) refl) later
 rows_by t x range name public (Details.Pipe None) os later = both_true (row_addr x == row_addr x) (stand_in_rows os (x + 1)) (eq-eqb (row_addr x) (row_addr x) refl) later
 rows_by t x range name public (Details.Pipe (Some size)) os later = both_true (row_addr x == row_addr x) (stand_in_rows os (x + 1)) (eq-eqb (row_addr x) (row_addr x) refl) later
+rows_by t x range name public Details.Timer os later = both_true (row_addr x == row_addr x) (stand_in_rows os (x + 1)) (eq-eqb (row_addr x) (row_addr x) refl) later
 
 pub rows_lawful : (ranges : List Range) (t x : ℕ) (os : List ObjectEntry) → IsTrue (stand_in_rows (objects_from ranges x t os) x)
 rows_lawful ranges t x [] = refl
@@ -233,6 +237,7 @@ stacks_by ranges x t name public (Details.Stack None) os same later = later rang
 stacks_by ranges x t name public (Details.Stack (Some entries)) os same later = later ranges (x + 1) t same
 stacks_by ranges x t name public (Details.Pipe None) os same later = later ranges (x + 1) t same
 stacks_by ranges x t name public (Details.Pipe (Some size)) os same later = later ranges (x + 1) t same
+stacks_by ranges x t name public Details.Timer os same later = later ranges (x + 1) t same
 
 pub ranges_of_stacks : (os : List ObjectEntry) → LaterRanges os
 ranges_of_stacks [] [] x t same = refl

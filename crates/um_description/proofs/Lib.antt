@@ -27,4 +27,6 @@ pub mod LawfulBoots
 pub mod LawfulBlocks
 pub mod LawfulLines
 pub mod LawfulScripts
+pub mod PlacesApart
+pub mod LawfulFutexes
 pub mod LawfulImage

@@ -5,11 +5,12 @@ use Rattle.std.proofs.Math.Nat.{min-le_left, min-eq_left}
 use Rattle.std.proofs.lemmas.Bool.Decides.{nat_tests}
 use Rattle.std.proofs.lemmas.List.{length-replicate, length-append}
 use Rattle.std.proofs.lemmas.List.Elements.{All-cons, All-nil}
-use Rattle.um_base.specs.declared.limits.TheConstants.{POOLS, PARTITIONS, DOMAINS, STATIC_ROWS, BOOTS, SCRIPTS, LINES, AREA_ENTRY, DOMAIN_PARTITIONS}
+use Rattle.um_base.specs.declared.limits.TheConstants.{POOLS, PARTITIONS, DOMAINS, STATIC_ROWS, BOOTS, SCRIPTS, FUTEXES, LINES, AREA_ENTRY, DOMAIN_PARTITIONS}
 use Rattle.um_document.specs.declared.description.BootEntry.{BootEntry}
 use Rattle.um_document.specs.declared.description.Description.{Description}
 use Rattle.um_document.specs.declared.description.Details.{Details}
 use Rattle.um_document.specs.declared.description.DomainEntry.{DomainEntry}
+use Rattle.um_document.specs.declared.description.FutexEntry.{FutexEntry}
 use Rattle.um_document.specs.declared.description.ObjectEntry.{ObjectEntry}
 use Rattle.um_document.specs.declared.description.PartitionContents.{PartitionContents}
 use Rattle.um_document.specs.declared.description.PartitionEntry.{PartitionEntry}
@@ -21,7 +22,7 @@ use Rattle.um_document.specs.declared.shape.Key.{Key}
 use Rattle.um_document.specs.declared.shape.Section.{Section}
 use Rattle.um_description.specs.declared.flaw.Flaw.{Flaw}
 use Rattle.um_description.specs.InLimits.{IsSize, IsInLimits}
-use Rattle.um_description.specs.Limits.{outside, longer, pool_limits, variable_limits, contents_limits, partition_limits, most_parts, domain_limits, details_limits, threads_after, object_limits, objects_limits, boot_limits, script_limits, top_limits, limits}
+use Rattle.um_description.specs.Limits.{outside, longer, pool_limits, variable_limits, contents_limits, partition_limits, most_parts, domain_limits, details_limits, threads_after, object_limits, objects_limits, boot_limits, script_limits, futex_limits, top_limits, limits}
 use Rattle.um_description.specs.Names.{each, items}
 use Rattle.um_description.specs.Numbers.{natural, clamped}
 use Rattle.um_description.specs.Packing.{offset_of, end_of, last_end, size_of, with_data, bytes_from, bytes_of, size_by, asked_size, bytes_by, first_bytes}
@@ -188,6 +189,7 @@ stack_right i (Details.Mutex init) h = All-nil IsSize
 stack_right i (Details.Msgq numbers) h = All-nil IsSize
 stack_right i (Details.Stack entries) h = All-nil IsSize
 stack_right i (Details.Pipe size) h = All-nil IsSize
+stack_right i Details.Timer h = All-nil IsSize
 
 object_right : (threads i : ℕ) (o : ObjectEntry) → object_limits threads i o ≡ [] → ((i == STATIC_ROWS) ≡ false) × All IsSize (asked_stack o)
 unfolding object_limits
@@ -218,6 +220,10 @@ script_right i s h =
     let few : nat_lt LINES (length s.lines) ≡ false = (neither_told (int_lt (pos (length s.lines)) (pos 1)) (int_lt (pos LINES) (pos (length s.lines))) _ _ t.1).1 in
     (not_told (i == SCRIPTS) _ t.0, grind (arith, nat_tests))
 
+futex_right : (ps : List PartitionEntry) (i : ℕ) (f : FutexEntry) → futex_limits ps i f ≡ [] → (i == FUTEXES) ≡ false
+unfolding futex_limits
+futex_right ps i f h = not_told (i == FUTEXES) _ (none_both _ _ h).0
+
 rodata_right : (d : Description) → top_limits d ≡ [] → length d.rodata ≤ AREA_ENTRY
 unfolding top_limits
 rodata_right d h = no_longer Key.Rodata AREA_ENTRY _ (length d.rodata) (none_both _ _ h).1
@@ -228,7 +234,8 @@ from_zero n most h = omega (arith, h)
 pub in_limits : (d : Description) → limits d ≡ [] → IsInLimits d
 in_limits d h =
     let most = most_parts d.regions in
-    let t6 = none_both _ (each script_limits 0 d.scripts) h in
+    let t7 = none_both _ (each (futex_limits d.partitions) 0 d.futexes) h in
+    let t6 = none_both _ (each script_limits 0 d.scripts) t7.0 in
     let t5 = none_both _ (each boot_limits 0 d.boots) t6.0 in
     let t4 = none_both _ (objects_limits 0 0 d.objects) t5.0 in
     let t3 = none_both _ (each (domain_limits most) 0 d.domains) t4.0 in
@@ -248,5 +255,6 @@ in_limits d h =
       stacks = os.1;
       boots = from_zero _ _ (count_in BOOTS boot_limits boot_right 0 d.boots (omega arith) t5.1);
       scripts = from_zero _ _ (count_in SCRIPTS script_limits (λ i s e. (script_right i s e).0) 0 d.scripts (omega arith) t6.1);
+      futexes = from_zero _ _ (count_in FUTEXES (futex_limits d.partitions) (futex_right d.partitions) 0 d.futexes (omega arith) t7.1);
       lines = each_right (λ (s : ScriptEntry). length s.lines ≤ LINES) script_limits (λ i s e. (script_right i s e).1) 0 d.scripts t6.1;
     }

@@ -1,8 +1,10 @@
 -- What is named twice, in the order of the places.
 use Rattle.std.specs.Prelude.{◌≡◌, ℕ, ◌+◌, List, [], ◌∷◌, ◌++◌, if◌then◌else◌}
+use Rattle.std.specs.Fmt.{signed_decimal}
 use Rattle.um_document.specs.declared.description.BootEntry.{BootEntry}
 use Rattle.um_document.specs.declared.description.Description.{Description}
 use Rattle.um_document.specs.declared.description.DomainEntry.{DomainEntry}
+use Rattle.um_document.specs.declared.description.FutexEntry.{FutexEntry}
 use Rattle.um_document.specs.declared.description.PartitionEntry.{PartitionEntry}
 use Rattle.um_document.specs.declared.description.VariableEntry.{VariableEntry}
 use Rattle.um_document.specs.declared.place.Place.{Place}
@@ -62,7 +64,20 @@ abbrev pub boots_again : List Text → List Text → ℕ → List BootEntry → 
 boots_again threads stacks i [] = []
 boots_again threads stacks i (b ∷ bs) = boot_again threads stacks i b ++ boots_again (b.thread ∷ threads) (b.stack ∷ stacks) (i + 1) bs
 
--- the texts that stood before a description's partitions, domains, objects and scripts
+-- where a futex lies, as a place is written: its partition, `+` and its offset
+abbrev pub spot_text : FutexEntry → Text
+spot_text f = f.partition ++ (43 ∷ signed_decimal f.offset)
+
+-- the name of a futex, and where it lies: two that lie at one offset of one partition have one address
+abbrev pub futex_again : List Text → List Text → ℕ → FutexEntry → List Place
+futex_again names spots i f =
+    if_again names (Place.Field Section.Futex i Key.Name) f.name ++ if_again spots (Place.Field Section.Futex i Key.Offset) (spot_text f)
+
+abbrev pub futexes_again : List Text → List Text → ℕ → List FutexEntry → List Place
+futexes_again names spots i [] = []
+futexes_again names spots i (f ∷ fs) = futex_again names spots i f ++ futexes_again (f.name ∷ names) (spot_text f ∷ spots) (i + 1) fs
+
+-- the texts that stood before a description's partitions, domains, objects, scripts and futexes
 abbrev pub before_partitions : Description → List Text
 before_partitions d = added [] (pool_names d)
 
@@ -75,7 +90,10 @@ before_objects d = added (before_domains d) (domain_names d)
 abbrev pub before_scripts : Description → List Text
 before_scripts d = added (before_objects d) (object_names d)
 
--- the places of each section whose text stood before: as a name, in the same domain, or as another boot entry's thread or stack
+abbrev pub before_futexes : Description → List Text
+before_futexes d = added (before_scripts d) (script_names d)
+
+-- the places of each section whose text stood before: as a name, in the same domain, as another boot entry's thread or stack, or as where another futex lies
 abbrev pub pool_places : Description → List Place
 pool_places d = names_again [] Section.Pool 0 (pool_names d)
 
@@ -94,9 +112,12 @@ boot_places d = boots_again [] [] 0 d.boots
 abbrev pub script_places : Description → List Place
 script_places d = names_again (before_scripts d) Section.Script 0 (script_names d)
 
+abbrev pub futex_places : Description → List Place
+futex_places d = futexes_again (before_futexes d) [] 0 d.futexes
+
 -- and all of them
 abbrev pub duplicates : Description → List Place
-duplicates d = pool_places d ++ partition_places d ++ domain_places d ++ object_places d ++ boot_places d ++ script_places d
+duplicates d = pool_places d ++ partition_places d ++ domain_places d ++ object_places d ++ boot_places d ++ script_places d ++ futex_places d
 
 -- the same texts stand in both lists
 abbrev pub SameTexts : List Text → List Text → Type 0

@@ -1,7 +1,7 @@
 -- A description whose counts and numbers are in their ranges.
 use Rattle.std.specs.Prelude.{ℕ, ◌≤◌, IsTrue, All, length}
 use Rattle.um_base.specs.Lawful.{is_within}
-use Rattle.um_base.specs.declared.limits.TheConstants.{POOLS, PARTITIONS, DOMAINS, STATIC_ROWS, BOOTS, SCRIPTS, LINES, AREA_ENTRY}
+use Rattle.um_base.specs.declared.limits.TheConstants.{POOLS, PARTITIONS, DOMAINS, STATIC_ROWS, BOOTS, SCRIPTS, FUTEXES, LINES, AREA_ENTRY}
 use Rattle.um_document.specs.declared.description.Description.{Description}
 use Rattle.um_document.specs.declared.description.DomainEntry.{DomainEntry}
 use Rattle.um_document.specs.declared.description.ObjectEntry.{ObjectEntry}
@@ -28,3 +28,4 @@ pub record IsInLimits (d : Description) : Type 0 where
   pub boots : length d.boots ≤ BOOTS
   pub scripts : length d.scripts ≤ SCRIPTS
   pub lines : All (λ (s : ScriptEntry). length s.lines ≤ LINES) d.scripts
+  pub futexes : length d.futexes ≤ FUTEXES

@@ -1,10 +1,11 @@
 -- Counts and numbers that are out of their ranges, in the order of the places.
-use Rattle.std.specs.Prelude.{ℕ, ◌+◌, ◌-◌, min, List, [], ◌∷◌, ◌++◌, length, ◌==◌, ◌&&◌, if◌then◌else◌, Some, None, ℤ, pos, negsuc, int_lt}
-use Rattle.um_base.specs.declared.limits.TheConstants.{POOLS, PARTITIONS, DOMAINS, STATIC_ROWS, BOOTS, SCRIPTS, LINES, STATIC_THREADS, AREA_ENTRY, DOMAIN_PARTITIONS}
+use Rattle.std.specs.Prelude.{ℕ, ◌+◌, ◌-◌, min, List, [], ◌∷◌, ◌++◌, length, ◌==◌, ◌&&◌, if◌then◌else◌, Option, Some, None, ℤ, pos, negsuc, int_lt, nat_lt, bytes_eq}
+use Rattle.um_base.specs.declared.limits.TheConstants.{POOLS, PARTITIONS, DOMAINS, STATIC_ROWS, BOOTS, SCRIPTS, FUTEXES, LINES, STATIC_THREADS, AREA_ENTRY, DOMAIN_PARTITIONS}
 use Rattle.um_document.specs.declared.description.BootEntry.{BootEntry}
 use Rattle.um_document.specs.declared.description.Description.{Description}
 use Rattle.um_document.specs.declared.description.Details.{Details}
 use Rattle.um_document.specs.declared.description.DomainEntry.{DomainEntry}
+use Rattle.um_document.specs.declared.description.FutexEntry.{FutexEntry}
 use Rattle.um_document.specs.declared.description.ObjectEntry.{ObjectEntry}
 use Rattle.um_document.specs.declared.description.PartitionContents.{PartitionContents}
 use Rattle.um_document.specs.declared.description.PartitionEntry.{PartitionEntry}
@@ -17,9 +18,9 @@ use Rattle.um_document.specs.declared.shape.Section.{Section}
 use Rattle.um_document.specs.Shape.{section_key}
 use Rattle.um_description.specs.declared.flaw.Counted.TheVariants as counted
 use Rattle.um_description.specs.declared.flaw.Flaw.{Flaw}
-use Rattle.um_description.specs.Names.{each, items, is_thread}
+use Rattle.um_description.specs.Names.{Text, each, items, is_thread}
 use Rattle.um_description.specs.Numbers.{natural}
-use Rattle.um_description.specs.Packing.{size_of}
+use Rattle.um_description.specs.Packing.{size_of, asked_size}
 
 -- a number at a key, which is to be from low to high: below, it passes the lower end, and above, the upper one
 abbrev pub outside : Key → ℤ → ℤ → Place → ℤ → List Flaw
@@ -82,6 +83,7 @@ details_limits i (Details.Stack None) = []
 details_limits i (Details.Stack (Some entries)) = outside Key.Entries (pos 1) (pos 64) (Place.Field Section.Object i Key.Entries) entries
 details_limits i (Details.Pipe None) = []
 details_limits i (Details.Pipe (Some size)) = outside Key.Size (pos 1) (pos 256) (Place.Field Section.Object i Key.Size) size
+details_limits i Details.Timer = []
 
 -- the first thread object too many, behind so many others
 abbrev pub one_thread_too_many : ℕ → ℕ → ObjectEntry → List Flaw
@@ -109,6 +111,20 @@ unfoldable pub script_limits : ℕ → ScriptEntry → List Flaw
 script_limits i s =
     one_too_many Section.Script SCRIPTS i ++ outside Key.Lines (pos 1) (pos LINES) (Place.Field Section.Script i Key.Lines) (pos (length s.lines))
 
+-- the size that the partition with this name asks for
+abbrev pub size_named : Text → List PartitionEntry → Option ℕ
+size_named text [] = None
+size_named text (p ∷ ps) = if bytes_eq text p.name then Some (asked_size p) else size_named text ps
+
+-- four bytes lie in a partition of so many: none do in fewer than four
+abbrev pub offset_limits : Place → ℤ → Option ℕ → List Flaw
+offset_limits place n None = []
+offset_limits place n (Some size) =
+    if nat_lt size 4 then Flaw.Limit (counted.Key Key.Offset) (pos 0) place ∷ [] else outside Key.Offset (pos 0) (pos (size - 4)) place n
+
+unfoldable pub futex_limits : List PartitionEntry → ℕ → FutexEntry → List Flaw
+futex_limits ps i f = one_too_many Section.Futex FUTEXES i ++ offset_limits (Place.Field Section.Futex i Key.Offset) f.offset (size_named f.partition ps)
+
 unfoldable pub top_limits : Description → List Flaw
 top_limits d =
     outside Key.Regions (pos 4) (pos 32) (Place.Top Key.Regions) d.regions
@@ -123,3 +139,4 @@ limits d =
     ++ objects_limits 0 0 d.objects
     ++ each boot_limits 0 d.boots
     ++ each script_limits 0 d.scripts
+    ++ each (futex_limits d.partitions) 0 d.futexes

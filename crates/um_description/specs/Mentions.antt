@@ -9,7 +9,7 @@ use Rattle.um_document.specs.declared.description.Description.{Description}
 use Rattle.um_document.specs.declared.description.PartitionEntry.{PartitionEntry}
 use Rattle.um_script.specs.Words.{Words, ends, word, words_of_line}
 use Rattle.um_description.specs.declared.mentions.Wanted.{Wanted}
-use Rattle.um_description.specs.Names.{Text, is_among, variable_names, partition_names, domain_names, object_names, script_names}
+use Rattle.um_description.specs.Names.{Text, is_among, variable_names, partition_names, domain_names, object_names, script_names, futex_names}
 
 -- a name, the number of its word in the line, counted from 0, and what it is to name
 pub record Mention : Type 0 where
@@ -73,6 +73,16 @@ mentions (Instr.StackPush object value) = in_term 1 object ++ in_term 2 value
 mentions (Instr.PipeInit object size) = in_term 1 object ++ in_term 2 size
 mentions (Instr.PipeWrite object addr n timeout) = in_term 1 object ++ in_term 2 addr ++ in_term 3 n
 mentions (Instr.PipeRead object addr n timeout) = in_term 1 object ++ in_term 2 addr ++ in_term 3 n
+mentions (Instr.TimerStart object ticks) = in_term 1 object ++ in_term 2 ticks
+mentions (Instr.TimerStop object) = in_term 1 object
+mentions (Instr.TimerStatus object to) = in_term 1 object
+mentions (Instr.TimerSync object to) = in_term 1 object
+mentions (Instr.Abort thread) = in_term 1 thread
+mentions (Instr.Join thread timeout) = in_term 1 thread
+mentions (Instr.Suspend thread) = in_term 1 thread
+mentions (Instr.Continue thread) = in_term 1 thread
+mentions (Instr.FutexWait addr value timeout) = in_term 1 addr ++ in_term 2 value
+mentions (Instr.FutexWake addr all) = in_term 1 addr
 mentions _ = []
 
 -- the column of a word of a line
@@ -93,7 +103,8 @@ abbrev pub names_variable : List PartitionEntry → Text → Bool
 names_variable ps name = list_any (λ (p : PartitionEntry). is_among name (variable_names p)) ps
 
 abbrev pub is_known : Description → Wanted → Text → Bool
-is_known d Wanted.Place name = is_among name (object_names d) || is_among name (partition_names d) || names_variable d.partitions name || names_rodata d name
+is_known d Wanted.Place name =
+    is_among name (object_names d) || is_among name (partition_names d) || names_variable d.partitions name || names_rodata d name || is_among name (futex_names d)
 is_known d Wanted.Domain name = is_among name (domain_names d)
 is_known d Wanted.Partition name = is_among name (partition_names d)
 is_known d Wanted.Script name = is_among name (script_names d)

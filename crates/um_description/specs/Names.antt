@@ -4,6 +4,7 @@ use Rattle.std.specs.List.{list_any, flat_map}
 use Rattle.um_document.specs.declared.description.Description.{Description}
 use Rattle.um_document.specs.declared.description.Details.{Details}
 use Rattle.um_document.specs.declared.description.DomainEntry.{DomainEntry}
+use Rattle.um_document.specs.declared.description.FutexEntry.{FutexEntry}
 use Rattle.um_document.specs.declared.description.ObjectEntry.{ObjectEntry}
 use Rattle.um_document.specs.declared.description.PartitionContents.{PartitionContents}
 use Rattle.um_document.specs.declared.description.PartitionEntry.{PartitionEntry}
@@ -48,6 +49,9 @@ object_names d = map (λ (o : ObjectEntry). o.name) d.objects
 
 abbrev pub script_names : Description → List Text
 script_names d = map (λ (s : ScriptEntry). s.name) d.scripts
+
+abbrev pub futex_names : Description → List Text
+futex_names d = map (λ (f : FutexEntry). f.name) d.futexes
 
 -- the number of the entry with this name
 abbrev pub named : List Text → Text → Option ℕ

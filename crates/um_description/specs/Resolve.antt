@@ -4,6 +4,7 @@ use Rattle.std.specs.List.{flat_map}
 use Rattle.um_base.specs.declared.limits.TheConstants.{PARTITION_AREA, STACK_AREA, RODATA, OBJECTS, OBJECT_STEP}
 use Rattle.um_base.specs.declared.image.Boot.{Boot}
 use Rattle.um_base.specs.declared.image.DomainDef.{DomainDef}
+use Rattle.um_base.specs.declared.image.Futex.{Futex}
 use Rattle.um_base.specs.declared.image.Image.{Image}
 use Rattle.um_base.specs.declared.image.ObjectDef.{ObjectDef}
 use Rattle.um_base.specs.declared.image.Partition.{Partition}
@@ -19,10 +20,12 @@ use Rattle.um_base.specs.declared.names.Ref.{Ref}
 use Rattle.um_base.specs.declared.names.Row.{Row}
 use Rattle.um_base.specs.declared.names.Term.{Term}
 use Rattle.um_base.specs.Layout.{rounded, starts}
+use Rattle.um_base.specs.Lawful.{futex_addr}
 use Rattle.um_document.specs.declared.description.BootEntry.{BootEntry}
 use Rattle.um_document.specs.declared.description.Description.{Description}
 use Rattle.um_document.specs.declared.description.Details.{Details}
 use Rattle.um_document.specs.declared.description.DomainEntry.{DomainEntry}
+use Rattle.um_document.specs.declared.description.FutexEntry.{FutexEntry}
 use Rattle.um_document.specs.declared.description.ObjectEntry.{ObjectEntry}
 use Rattle.um_document.specs.declared.description.PartitionEntry.{PartitionEntry}
 use Rattle.um_document.specs.declared.description.PoolEntry.{PoolEntry}
@@ -120,6 +123,7 @@ object_def range x t o =
       | Details.Msgq numbers ↦ object_of o Kind.Msgq (row_addr x) (msgq_setup numbers)
       | Details.Stack entries ↦ object_of o Kind.Stack (row_addr x) (stack_setup entries)
       | Details.Pipe size ↦ object_of o Kind.Pipe (row_addr x) (pipe_setup size)
+      | Details.Timer ↦ object_of o Kind.Timer (row_addr x) Setup.Timer
     ]
 
 -- how many of the ranges an object takes
@@ -166,6 +170,10 @@ boot_of d b =
       grants = rows_among b.grants 0 (object_names d);
     }
 
+-- a futex, with the number of its partition among these names
+abbrev pub futex_of : List Text → FutexEntry → Futex
+futex_of partitions f = record { name = f.name; partition = number_named partitions f.partition; offset = clamped f.offset }
+
 -- the image with its partitions and its stacks in these ranges, but for its scripts
 abbrev pub without_scripts : Description → List Range → List Range → Image
 without_scripts d partitions stacks =
@@ -181,6 +189,7 @@ without_scripts d partitions stacks =
       objects = objects_from stacks 0 0 d.objects;
       boots = map (boot_of d) d.boots;
       scripts = [];
+      futexes = map (futex_of (partition_names d)) d.futexes;
     }
 
 -- Lines.
@@ -196,6 +205,11 @@ variable_addr name [] ps = RODATA
 variable_addr name (q ∷ qs) [] = RODATA
 variable_addr name (q ∷ qs) (p ∷ ps) = addr_at q.range.start.0 (offset_named name 0 (variables_of p.contents)) (variable_addr name qs ps)
 
+-- the address of the futex with this name, or another one
+abbrev pub futex_named : Image → Text → ℕ → List Futex → ℕ
+futex_named image name other [] = other
+futex_named image name other (f ∷ fs) = if bytes_eq name f.name then futex_addr image f % 2 ^ 32 else futex_named image name other fs
+
 -- the start of the partition with this name, or another address
 abbrev pub start_named : Text → ℕ → List Partition → ℕ
 start_named name other [] = other
@@ -206,9 +220,10 @@ abbrev pub object_addr : Text → ℕ → List ObjectDef → ℕ
 object_addr name other [] = other
 object_addr name other (o ∷ os) = if bytes_eq name o.name then o.addr.0 else object_addr name other os
 
--- the address of what a place names: an object, a partition, a variable, or the read-only data
+-- the address of what a place names: an object, a partition, a futex, a variable, or the read-only data
 abbrev pub addr_named : Image → Description → Text → ℕ
-addr_named image d name = object_addr name (start_named name (variable_addr name image.partitions d.partitions) image.partitions) image.objects
+addr_named image d name =
+    object_addr name (start_named name (futex_named image name (variable_addr name image.partitions d.partitions) image.futexes) image.partitions) image.objects
 
 abbrev pub term_of : Image → Description → Term → Term
 term_of image d (Term.Place name offset) = Term.Num ((addr_named image d name + offset) % 2 ^ 32)
@@ -265,6 +280,16 @@ resolved image d (Instr.StackPush object value) = Instr.StackPush (term_of image
 resolved image d (Instr.PipeInit object size) = Instr.PipeInit (term_of image d object) (term_of image d size)
 resolved image d (Instr.PipeWrite object addr n timeout) = Instr.PipeWrite (term_of image d object) (term_of image d addr) (term_of image d n) timeout
 resolved image d (Instr.PipeRead object addr n timeout) = Instr.PipeRead (term_of image d object) (term_of image d addr) (term_of image d n) timeout
+resolved image d (Instr.TimerStart object ticks) = Instr.TimerStart (term_of image d object) (term_of image d ticks)
+resolved image d (Instr.TimerStop object) = Instr.TimerStop (term_of image d object)
+resolved image d (Instr.TimerStatus object to) = Instr.TimerStatus (term_of image d object) to
+resolved image d (Instr.TimerSync object to) = Instr.TimerSync (term_of image d object) to
+resolved image d (Instr.Abort thread) = Instr.Abort (term_of image d thread)
+resolved image d (Instr.Join thread timeout) = Instr.Join (term_of image d thread) timeout
+resolved image d (Instr.Suspend thread) = Instr.Suspend (term_of image d thread)
+resolved image d (Instr.Continue thread) = Instr.Continue (term_of image d thread)
+resolved image d (Instr.FutexWait addr value timeout) = Instr.FutexWait (term_of image d addr) (term_of image d value) timeout
+resolved image d (Instr.FutexWake addr all) = Instr.FutexWake (term_of image d addr) all
 resolved image d Instr.End = Instr.End
 resolved image d Instr.Oops = Instr.Oops
 resolved image d Instr.Panic = Instr.Panic

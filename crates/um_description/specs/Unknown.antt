@@ -3,6 +3,7 @@ use Rattle.std.specs.Prelude.{ℕ, List, [], ◌∷◌, ◌++◌, Bool, is_some,
 use Rattle.um_document.specs.declared.description.BootEntry.{BootEntry}
 use Rattle.um_document.specs.declared.description.Description.{Description}
 use Rattle.um_document.specs.declared.description.DomainEntry.{DomainEntry}
+use Rattle.um_document.specs.declared.description.FutexEntry.{FutexEntry}
 use Rattle.um_document.specs.declared.place.Place.{Place}
 use Rattle.um_document.specs.declared.shape.Key.{Key}
 use Rattle.um_document.specs.declared.shape.Section.{Section}
@@ -34,5 +35,9 @@ abbrev pub unknown_in_boot : Description → ℕ → BootEntry → List Place
 unknown_in_boot d i b =
     unknown_besides_grants d i b ++ each (λ j text. unless (is_some (named (object_names d) text)) (Place.Item Section.Boot i Key.Grants j)) 0 b.grants
 
+-- the i-th futex's partition
+abbrev pub unknown_in_futex : Description → ℕ → FutexEntry → List Place
+unknown_in_futex d i f = unless (is_some (named (partition_names d) f.partition)) (Place.Field Section.Futex i Key.Partition)
+
 abbrev pub unknown_names : Description → List Place
-unknown_names d = each (unknown_in_domain d) 0 d.domains ++ each (unknown_in_boot d) 0 d.boots
+unknown_names d = each (unknown_in_domain d) 0 d.domains ++ each (unknown_in_boot d) 0 d.boots ++ each (unknown_in_futex d) 0 d.futexes

@@ -15,11 +15,12 @@ ghost use Rattle.um_description.specs.Duplicates as spec;
 ghost use Rattle.um_description.specs.Names.{variables_of, variable_names, names_within};
 
 use crate::seen::Seen;
+use itoa::Buffer;
 use std::alloc::Global;
 use um_base::{Name, OutOfMemory};
 use um_document::{
-    BootEntry, Description, DomainEntry, Key, ObjectEntry, PartitionContents, PartitionEntry,
-    Place, PoolEntry, ScriptEntry, Section, Text, VariableEntry,
+    BootEntry, Description, DomainEntry, FutexEntry, Key, ObjectEntry, PartitionContents,
+    PartitionEntry, Place, PoolEntry, ScriptEntry, Section, Text, VariableEntry,
 };
 
 /// The first of some names of a section that stood before.
@@ -284,14 +285,71 @@ fn scripts_again(
     seen: &mut Seen,
     scripts: &[ScriptEntry],
 ) -> Result<Option<Place>, OutOfMemory>
-    ensures { IfOk result (λ found. found ≡ first_of (spec.names_again seen.old Section.Script 0 (map (λ (s : ScriptEntry). s.name) scripts.now))) }
+    ensures found { IfOk result (λ found. found ≡ first_of (spec.names_again seen.old Section.Script 0 (map (λ (s : ScriptEntry). s.name) scripts.now))) }
+    ensures added { result ≡ Ok None → spec.SameTexts seen.new (spec.added seen.old (map (λ (s : ScriptEntry). s.name) scripts.now)) }
 {
     let names = script_names(alloc, scripts)?;
     name_again(alloc, seen, Section::Script, &names)
 }
 
-/// The first place of a description whose text stood before: as a name, in the same domain, or as another boot
-/// entry's thread or stack.
+/// Where a futex lies, as a place is written.
+fn spot_text(alloc: Global, futex: &FutexEntry) -> Result<Vec<u8>, OutOfMemory>
+    ensures { IfOk result (λ text. text.items ≡ spec.spot_text futex.now) }
+{
+    let mut buffer = Buffer::new();
+    let mut text = Vec::new(alloc);
+    text.extend_from_slice(futex.partition.as_slice())?;
+    text.push(b'+')?;
+    text.extend_from_slice(buffer.format(futex.offset).as_bytes())?;
+    Ok(text)
+}
+
+/// A futex whose name stood before, or that lies where another one before it does.
+fn futex_found(
+    alloc: Global,
+    names: &mut Seen,
+    spots: &mut Seen,
+    index: usize,
+    futex: &FutexEntry,
+) -> Result<Option<Place>, OutOfMemory>
+    ensures found { IfOk result (λ found. found ≡ first_of (spec.futex_again names.old spots.old index futex.now)) }
+    ensures names { OnOk result (spec.SameTexts names.new (futex.now.name ∷ names.old)) }
+    ensures spots { OnOk result (spec.SameTexts spots.new (spec.spot_text futex.now ∷ spots.old)) }
+{
+    let text = spot_text(alloc, futex)?;
+    let name = names.add(alloc, futex.name.as_slice())?;
+    let spot = spots.add(alloc, &text)?;
+    if name {
+        Ok(Some(Place::Field(Section::Futex, index, Key::Name)))
+    } else if spot {
+        Ok(Some(Place::Field(Section::Futex, index, Key::Offset)))
+    } else {
+        Ok(None)
+    }
+}
+
+/// The first futex whose name stood before, or that lies where another one before it does.
+fn futexes_again(
+    alloc: Global,
+    names: &mut Seen,
+    futexes: &[FutexEntry],
+) -> Result<Option<Place>, OutOfMemory>
+    ensures { IfOk result (λ found. found ≡ first_of (spec.futexes_again names.old [] 0 futexes.now)) }
+{
+    let mut spots = Seen::new(alloc);
+    let mut index = 0usize;
+    for futex in futexes {
+        let found = futex_found(alloc, names, &mut spots, index, futex)?;
+        if found.is_some() {
+            return Ok(found);
+        }
+        index += 1;
+    }
+    Ok(None)
+}
+
+/// The first place of a description whose text stood before: as a name, in the same domain, as another boot entry's
+/// thread or stack, or as where another futex lies.
 pub fn first_duplicate(alloc: Global, d: &Description) -> Result<Option<Place>, OutOfMemory>
     ensures { IfOk result (λ found. found ≡ first_of (spec.duplicates d.now)) }
 {
@@ -302,12 +360,14 @@ pub fn first_duplicate(alloc: Global, d: &Description) -> Result<Option<Place>, 
     let objects = objects_again(alloc, &mut seen, d.objects.as_slice())?;
     let boots = boot_again(alloc, d.boots.as_slice())?;
     let scripts = scripts_again(alloc, &mut seen, d.scripts.as_slice())?;
+    let futexes = futexes_again(alloc, &mut seen, d.futexes.as_slice())?;
     Ok(
         pools
             .or(partitions)
             .or(domains)
             .or(objects)
             .or(boots)
-            .or(scripts),
+            .or(scripts)
+            .or(futexes),
     )
 }

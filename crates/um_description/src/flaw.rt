@@ -15,7 +15,8 @@ pub enum Counted {
 /// What is wrong, and where. The kinds are tried in this order over the whole description.
 #[derive(Clone, Copy, PartialEq, Eq)]
 pub enum Flaw {
-    /// A name was given before, a partition stands twice in a domain, or a thread or a stack in two boot entries.
+    /// A name was given before, a partition stands twice in a domain, a thread or a stack in two boot entries, or two
+    /// futexes have one address.
     Duplicate(Place),
     /// A name names nothing of the kind wanted, or a boot entry's domain isn't initialised.
     UnknownName(Place),

@@ -12,13 +12,14 @@ ghost use Rattle.um_description.specs.Names as names;
 
 use crate::first::first_found;
 use crate::flaw::{Counted, Flaw};
-use crate::packing::packed_size;
+use crate::named::is_named;
+use crate::packing::{asked_size, packed_size};
 use um_base::{
-    AREA_ENTRY, BOOTS, DOMAIN_PARTITIONS, DOMAINS, LINES, PARTITIONS, POOLS, SCRIPTS, STATIC_ROWS,
-    STATIC_THREADS,
+    AREA_ENTRY, BOOTS, DOMAIN_PARTITIONS, DOMAINS, FUTEXES, LINES, PARTITIONS, POOLS, SCRIPTS,
+    STATIC_ROWS, STATIC_THREADS,
 };
 use um_document::{
-    BootEntry, Description, Details, DomainEntry, Key, ObjectEntry, PartitionContents,
+    BootEntry, Description, Details, DomainEntry, FutexEntry, Key, ObjectEntry, PartitionContents,
     PartitionEntry, Place, PoolEntry, ScriptEntry, Section, Sequence, Text, VariableEntry,
 };
 
@@ -223,7 +224,7 @@ fn details_limit(i: usize, details: Details) -> Option<Flaw>
     ensures { result ≡ first_of (limits.details_limits i details) }
 {
     match details {
-        Details::Thread | Details::Mutex { .. } => None,
+        Details::Thread | Details::Mutex { .. } | Details::Timer => None,
         Details::ThreadStack { size } => object_number(i, Key::Size, 1, AREA_ENTRY as i64, size),
         Details::Sem {
             numbers: Some(numbers),
@@ -300,6 +301,62 @@ fn script_limit(i: usize, script: &ScriptEntry) -> Option<Flaw>
     one_too_many(Section::Script, SCRIPTS, i).or(lines)
 }
 
+/// The size that the partition with this name asks for.
+fn size_named(text: &[u8], partitions: &[PartitionEntry]) -> Option<u32>
+    ensures { result ≡ limits.size_named text.now partitions.now }
+{
+    for partition in partitions {
+        if is_named(&partition.name, text) {
+            return Some(asked_size(partition));
+        }
+    }
+    None
+}
+
+/// An offset at which four bytes don't lie in a partition of so many.
+fn offset_limit(place: Place, n: i64, size: Option<u32>) -> Option<Flaw>
+    ensures { result ≡ first_of (limits.offset_limits place n size) }
+{
+    match size {
+        None => None,
+        Some(size) => {
+            if size < 4 {
+                Some(Flaw::Limit {
+                    counted: Counted::Key(Key::Offset),
+                    number: 0,
+                    place,
+                })
+            } else {
+                outside(Key::Offset, 0, (size - 4) as i64, place, n)
+            }
+        }
+    }
+}
+
+/// The offset of a futex, where four bytes from there on don't lie in its partition.
+fn futex_offset_limit(
+    partitions: &[PartitionEntry],
+    place: Place,
+    futex: &FutexEntry,
+) -> Option<Flaw>
+    ensures { result ≡ first_of (limits.offset_limits place futex.now.offset (limits.size_named futex.now.partition partitions.now)) }
+{
+    let size = size_named(futex.partition.as_slice(), partitions);
+    offset_limit(place, futex.offset, size)
+}
+
+#[tactic(auto, using(crate::proofs::Firsts::first_or), unfolding(crate::specs::Limits::futex_limits))]
+fn futex_limit(partitions: &[PartitionEntry], i: usize, futex: &FutexEntry) -> Option<Flaw>
+    ensures { result ≡ first_of (limits.futex_limits partitions.now i futex.now) }
+{
+    let offset = futex_offset_limit(
+        partitions,
+        Place::Field(Section::Futex, i, Key::Offset),
+        futex,
+    );
+    one_too_many(Section::Futex, FUTEXES, i).or(offset)
+}
+
 fn object_limits(objects: &[ObjectEntry]) -> Option<Flaw>
     ensures { result ≡ first_of (limits.objects_limits 0 0 objects.now) }
 {
@@ -339,6 +396,11 @@ pub fn first_limit(d: &Description) -> Option<Flaw>
         d.domains.as_slice(),
         |i, domain| domain_limit(most, i, domain),
     );
+    let partitions = d.partitions.as_slice();
+    let futexes = first_found(
+        d.futexes.as_slice(),
+        |i, futex| futex_limit(partitions, i, futex),
+    );
     top_limit(d)
         .or(first_found(d.pools.as_slice(), pool_limit))
         .or(first_found(d.partitions.as_slice(), partition_limit))
@@ -346,4 +408,5 @@ pub fn first_limit(d: &Description) -> Option<Flaw>
         .or(object_limits(d.objects.as_slice()))
         .or(first_found(d.boots.as_slice(), boot_limit))
         .or(first_found(d.scripts.as_slice(), script_limit))
+        .or(futexes)
 }

@@ -13,7 +13,7 @@ use um_document::Description;
 /// What a name in a line is to name.
 #[derive(Clone, Copy, PartialEq, Eq)]
 pub enum Wanted {
-    /// An object, a partition, a variable, or the read-only data.
+    /// An object, a partition, a futex, a variable, or the read-only data.
     Place,
     Domain,
     Partition,
@@ -29,7 +29,7 @@ fn names_rodata(d: &Description, name: &[u8]) -> bool
     name == RODATA && !d.rodata.is_empty()
 }
 
-/// Whether a name is that of an object, a partition, a variable, or of the read-only data.
+/// Whether a name is that of an object, a partition, a futex, a variable, or of the read-only data.
 fn is_place(d: &Indexed<'_>, name: &[u8]) -> bool
     ensures { result ≡ spec.is_known d.now Wanted.Place name.now }
 {
@@ -45,6 +45,7 @@ fn is_place(d: &Indexed<'_>, name: &[u8]) -> bool
             name,
         )
         || names_rodata(d.description(), name)
+        || has_name(d.description().futexes.as_slice(), |futex| futex.name, name)
 }
 
 /// Whether a name names what is wanted.

@@ -10,7 +10,7 @@ ghost use Rattle.um_description.specs.Packing as spec;
 use crate::numbers::clamped;
 use std::alloc::Global;
 use um_base::OutOfMemory;
-use um_document::{Alignment, Text, VariableEntry};
+use um_document::{Alignment, PartitionContents, PartitionEntry, Text, VariableEntry};
 
 /// Where a variable of this alignment begins behind so many bytes.
 pub fn offset_behind(end: u32, align: Alignment) -> u32
@@ -40,6 +40,16 @@ pub fn packed_size(variables: &[VariableEntry]) -> u32
         end = end_behind(offset_behind(end, variable.align), variable);
     }
     end
+}
+
+/// The size that a partition asks for.
+pub fn asked_size(entry: &PartitionEntry) -> u32
+    ensures { result ≡ spec.asked_size entry.now }
+{
+    match &entry.contents {
+        PartitionContents::Whole { size, .. } => clamped(*size),
+        PartitionContents::Variables(variables) => packed_size(variables.as_slice()),
+    }
 }
 
 /// The data of a variable at its offset behind bytes, with zeros between.

@@ -3,6 +3,7 @@
 mod base;
 mod boots;
 mod domains;
+mod futexes;
 mod lines;
 mod objects;
 mod partitions;

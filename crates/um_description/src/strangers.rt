@@ -104,7 +104,14 @@ fn stranger_of(d: &Indexed<'_>, instr: &Instr) -> Option<usize>
         | Instr::SemTake { object, .. }
         | Instr::MutexLock { object, .. }
         | Instr::SemCount { object, .. }
-        | Instr::MsgqUsed { object, .. } => in_term(d, 1, object),
+        | Instr::MsgqUsed { object, .. }
+        | Instr::TimerStop { object }
+        | Instr::TimerStatus { object, .. }
+        | Instr::TimerSync { object, .. } => in_term(d, 1, object),
+        Instr::Abort { thread }
+        | Instr::Join { thread, .. }
+        | Instr::Suspend { thread }
+        | Instr::Continue { thread } => in_term(d, 1, thread),
         Instr::Create {
             thread,
             stack,
@@ -131,6 +138,9 @@ fn stranger_of(d: &Indexed<'_>, instr: &Instr) -> Option<usize>
         Instr::StackInit { object, entries } => in_two(d, object, entries),
         Instr::StackPush { object, value } => in_two(d, object, value),
         Instr::PipeInit { object, size } => in_two(d, object, size),
+        Instr::TimerStart { object, ticks } => in_two(d, object, ticks),
+        Instr::FutexWait { addr, value, .. } => in_two(d, addr, value),
+        Instr::FutexWake { addr, .. } => in_term(d, 1, addr),
         Instr::PipeWrite {
             object,
             addr,

@@ -22,7 +22,8 @@ use crate::seen::Seen;
 use std::alloc::Global;
 use um_base::{Name, OutOfMemory};
 use um_document::{
-    BootEntry, Description, Details, DomainEntry, Key, ObjectEntry, Place, Section, Text,
+    BootEntry, Description, Details, DomainEntry, FutexEntry, Key, ObjectEntry, Place, Section,
+    Text,
 };
 
 /// The set of some names.
@@ -160,6 +161,22 @@ fn unknown_in_boot(d: &Description, objects: &Seen, index: usize, boot: &BootEnt
     unknown_key(d, index, boot).or(unknown_item(objects, Section::Boot, index, Key::Grants, grants))
 }
 
+/// A futex's partition that is none.
+fn unknown_in_futex(
+    d: &Description,
+    known: &Seen,
+    index: usize,
+    futex: &FutexEntry,
+) -> Option<Place>
+    requires { SameTexts known.now (names.partition_names d.now) }
+    ensures { result ≡ first_of (spec.unknown_in_futex d.now index futex.now) }
+{
+    unless(
+        known.has(futex.partition.as_slice()),
+        Place::Field(Section::Futex, index, Key::Partition),
+    )
+}
+
 /// The first name in a key of a description that names nothing of the kind wanted.
 pub fn first_unknown(alloc: Global, d: &Description) -> Result<Option<Place>, OutOfMemory>
     ensures { IfOk result (λ found. found ≡ first_of (spec.unknown_names d.now)) }
@@ -170,6 +187,12 @@ pub fn first_unknown(alloc: Global, d: &Description) -> Result<Option<Place>, Ou
     let objects = set_of(alloc, &names)?;
     let domains = d.domains.as_slice();
     let boots = d.boots.as_slice();
+    let futexes = d.futexes.as_slice();
     let found = first_found(domains, |i, domain| unknown_part(d, &partitions, i, domain));
-    Ok(found.or(first_found(boots, |i, boot| unknown_in_boot(d, &objects, i, boot))))
+    let in_boots = first_found(boots, |i, boot| unknown_in_boot(d, &objects, i, boot));
+    let in_futexes = first_found(
+        futexes,
+        |i, futex| unknown_in_futex(d, &partitions, i, futex),
+    );
+    Ok(found.or(in_boots).or(in_futexes))
 }

@@ -32,6 +32,16 @@ fn line_cost(weights: &[u64; SCRIPTS], i: usize, line: &Instr) -> u64
         Instr::ObjectAlloc { .. } => 240,
         Instr::Create { script, .. } => weight_named(weights, i, script).saturating_add(240),
         Instr::UserMode { script } => weight_named(weights, i, script).saturating_add(40),
+        Instr::TimerStart { .. }
+        | Instr::TimerStop { .. }
+        | Instr::TimerStatus { .. }
+        | Instr::TimerSync { .. }
+        | Instr::Abort { .. }
+        | Instr::Join { .. }
+        | Instr::Suspend { .. }
+        | Instr::Continue { .. }
+        | Instr::FutexWait { .. }
+        | Instr::FutexWake { .. } => 80,
         _ => 40,
     }
 }

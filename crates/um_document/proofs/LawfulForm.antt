@@ -9,6 +9,7 @@ use Rattle.um_base.specs.Lawful.{is_name, begins_with_letter, is_name_byte, is_g
 use Rattle.um_document.specs.declared.check.Check.{Check}
 use Rattle.um_document.specs.declared.description.Description.{Description}
 use Rattle.um_document.specs.declared.description.DomainEntry.{DomainEntry}
+use Rattle.um_document.specs.declared.description.FutexEntry.{FutexEntry}
 use Rattle.um_document.specs.declared.description.ObjectEntry.{ObjectEntry}
 use Rattle.um_document.specs.declared.description.PartitionEntry.{PartitionEntry}
 use Rattle.um_document.specs.declared.description.PoolEntry.{PoolEntry}
@@ -22,7 +23,7 @@ use Rattle.um_document.specs.Faults.{version_faults, broken_parts, unknown_key_f
 use Rattle.um_document.specs.Forms.{is_some_and}
 use Rattle.um_document.specs.Parts.{◌>>=◌, Part, value_at, items_in, field_parts, further_fields, key_parts, table_parts, entry_parts, entries_parts, section_parts, top_parts, entry_sections, parts, has_version, partitions_by}
 use Rattle.um_document.specs.Places.{place_text}
-use Rattle.um_document.specs.Reading.{short, name_at, text_given, with_table, entries_of, attr_at, pool_of, partition_of, domain_of, object_of, script_of, description_of}
+use Rattle.um_document.specs.Reading.{short, name_at, text_given, with_table, entries_of, attr_at, pool_of, partition_of, domain_of, object_of, script_of, futex_of, description_of}
 use Rattle.um_document.specs.Shape.{section_key, section_fields}
 use Rattle.um_vocabulary.specs.Words.{attr_word, given_attr_named, given_attrs}
 use Rattle.um_document.specs.LawfulNames.{AreLawfulNames, has_given_attr}
@@ -191,18 +192,21 @@ lawful_names t h =
     let e = section_parts t Section.Object in
     let f = section_parts t Section.Boot in
     let g = section_parts t Section.Script in
-    let r0 : IsTrue (list_all is_sound (a ++ (b ++ (c ++ (e ++ (f ++ (g ++ []))))))) = back_all (top_parts t) (entry_sections t) (sound_parts t h) in
-    let r1 = back_all a (b ++ (c ++ (e ++ (f ++ (g ++ []))))) r0 in
-    let r2 = back_all b (c ++ (e ++ (f ++ (g ++ [])))) r1 in
-    let r3 = back_all c (e ++ (f ++ (g ++ []))) r2 in
-    let r4 = back_all e (f ++ (g ++ [])) r3 in
-    let r5 = back_all f (g ++ []) r4 in
+    let k = section_parts t Section.Futex in
+    let r0 : IsTrue (list_all is_sound (a ++ (b ++ (c ++ (e ++ (f ++ (g ++ (k ++ [])))))))) = back_all (top_parts t) (entry_sections t) (sound_parts t h) in
+    let r1 = back_all a (b ++ (c ++ (e ++ (f ++ (g ++ (k ++ [])))))) r0 in
+    let r2 = back_all b (c ++ (e ++ (f ++ (g ++ (k ++ []))))) r1 in
+    let r3 = back_all c (e ++ (f ++ (g ++ (k ++ [])))) r2 in
+    let r4 = back_all e (f ++ (g ++ (k ++ []))) r3 in
+    let r5 = back_all f (g ++ (k ++ [])) r4 in
+    let r6 = back_all g (k ++ []) r5 in
     record {
-      pools = names_in Section.Pool pool_of (λ (p : PoolEntry). p.name) (λ u. refl) (begins_with_name Section.Pool tt) 0 (listed Section.Pool t) (front_all a (b ++ (c ++ (e ++ (f ++ (g ++ []))))) r0);
-      partitions = partition_names packed t (front_all b (c ++ (e ++ (f ++ (g ++ [])))) r1);
-      domains = names_in Section.Domain domain_of (λ (m : DomainEntry). m.name) (λ u. refl) (begins_with_name Section.Domain tt) 0 (listed Section.Domain t) (front_all c (e ++ (f ++ (g ++ []))) r2);
-      objects = names_in Section.Object object_of (λ (o : ObjectEntry). o.name) (λ u. refl) (begins_with_name Section.Object tt) 0 (listed Section.Object t) (front_all e (f ++ (g ++ [])) r3);
-      scripts = names_in Section.Script script_of (λ (s : ScriptEntry). s.name) (λ u. refl) (begins_with_name Section.Script tt) 0 (listed Section.Script t) (front_all g [] r5);
+      pools = names_in Section.Pool pool_of (λ (p : PoolEntry). p.name) (λ u. refl) (begins_with_name Section.Pool tt) 0 (listed Section.Pool t) (front_all a (b ++ (c ++ (e ++ (f ++ (g ++ (k ++ [])))))) r0);
+      partitions = partition_names packed t (front_all b (c ++ (e ++ (f ++ (g ++ (k ++ []))))) r1);
+      domains = names_in Section.Domain domain_of (λ (m : DomainEntry). m.name) (λ u. refl) (begins_with_name Section.Domain tt) 0 (listed Section.Domain t) (front_all c (e ++ (f ++ (g ++ (k ++ [])))) r2);
+      objects = names_in Section.Object object_of (λ (o : ObjectEntry). o.name) (λ u. refl) (begins_with_name Section.Object tt) 0 (listed Section.Object t) (front_all e (f ++ (g ++ (k ++ []))) r3);
+      scripts = names_in Section.Script script_of (λ (s : ScriptEntry). s.name) (λ u. refl) (begins_with_name Section.Script tt) 0 (listed Section.Script t) (front_all g (k ++ []) r5);
+      futexes = names_in Section.Futex futex_of (λ (x : FutexEntry). x.name) (λ u. refl) (begins_with_name Section.Futex tt) 0 (listed Section.Futex t) (front_all k [] r6);
       attributes = attrs_in (listed Section.Partition t);
     }
 

@@ -11,6 +11,7 @@ use Rattle.um_document.specs.declared.description.BootEntry.{BootEntry}
 use Rattle.um_document.specs.declared.description.Description.{Description}
 use Rattle.um_document.specs.declared.description.Details.{Details}
 use Rattle.um_document.specs.declared.description.DomainEntry.{DomainEntry}
+use Rattle.um_document.specs.declared.description.FutexEntry.{FutexEntry}
 use Rattle.um_document.specs.declared.description.MsgqNumbers.{MsgqNumbers}
 use Rattle.um_document.specs.declared.description.ObjectEntry.{ObjectEntry}
 use Rattle.um_document.specs.declared.description.PartitionContents.{PartitionContents}
@@ -125,6 +126,7 @@ details_of Kind.Mutex t = Details.Mutex (truth_at Key.Init t)
 details_of Kind.Msgq t = Details.Msgq (msgq_numbers (number_given Key.MsgSize t) (number_given Key.MaxMsgs t))
 details_of Kind.Stack t = Details.Stack (number_given Key.Entries t)
 details_of Kind.Pipe t = Details.Pipe (number_given Key.Size t)
+details_of Kind.Timer t = Details.Timer
 
 abbrev pub object_of : Members → ObjectEntry
 object_of t =
@@ -149,6 +151,9 @@ boot_of t =
 abbrev pub script_of : Members → ScriptEntry
 script_of t = record { name = name_at t; lines = texts_at Key.Lines t }
 
+abbrev pub futex_of : Members → FutexEntry
+futex_of t = record { name = name_at t; partition = text_at Key.Partition t; offset = number_at Key.Offset t }
+
 abbrev pub mpu_at : Members → Mpu
 mpu_at t = unwrap_or (text_given Key.Mpu t >>= mpu_named) Mpu.V7
 
@@ -169,4 +174,5 @@ description_of t =
       objects = entries_at object_of Section.Object t;
       boots = entries_at boot_of Section.Boot t;
       scripts = entries_at script_of Section.Script t;
+      futexes = entries_at futex_of Section.Futex t;
     }

@@ -46,6 +46,8 @@ word key.Priority = codes "priority"
 word key.Mode = codes "mode"
 word key.Grants = codes "grants"
 word key.Lines = codes "lines"
+word key.Futex = codes "futex"
+word key.Offset = codes "offset"
 
 abbrev pub required : Key → Form → Field
 required k form = (k, form, Need.Required)
@@ -70,11 +72,12 @@ top_fields =
     ∷ optional key.Object Form.Tables
     ∷ optional key.Boot Form.Tables
     ∷ optional key.Script Form.Tables
+    ∷ optional key.Futex Form.Tables
     ∷ []
 
 -- the sections, in their order, where partitions have this form, each at its key
 abbrev pub sections_with : Section → List Section
-sections_with partitions = Section.Pool ∷ partitions ∷ Section.Domain ∷ Section.Object ∷ Section.Boot ∷ Section.Script ∷ []
+sections_with partitions = Section.Pool ∷ partitions ∷ Section.Domain ∷ Section.Object ∷ Section.Boot ∷ Section.Script ∷ Section.Futex ∷ []
 
 abbrev pub section_key : Section → Key
 section_key Section.Pool = key.Pool
@@ -84,6 +87,7 @@ section_key Section.Domain = key.Domain
 section_key Section.Object = key.Object
 section_key Section.Boot = key.Boot
 section_key Section.Script = key.Script
+section_key Section.Futex = key.Futex
 
 -- the keys of each entry, of an object those of any kind
 abbrev pub section_fields : Section → List Field
@@ -106,6 +110,7 @@ section_fields Section.Boot =
     ∷ optional key.Grants Form.Texts
     ∷ []
 section_fields Section.Script = required key.Name Form.Name ∷ required key.Lines Form.Texts ∷ []
+section_fields Section.Futex = required key.Name Form.Name ∷ required key.Partition Form.Text ∷ required key.Offset Form.Number ∷ []
 
 -- the keys of a variable
 abbrev pub variable_fields : List Field
@@ -121,3 +126,4 @@ kind_fields Kind.Mutex = optional key.Init Form.Truth ∷ []
 kind_fields Kind.Msgq = paired key.MsgSize Form.Number key.MaxMsgs ∷ paired key.MaxMsgs Form.Number key.MsgSize ∷ []
 kind_fields Kind.Stack = optional key.Entries Form.Number ∷ []
 kind_fields Kind.Pipe = optional key.Size Form.Number ∷ []
+kind_fields Kind.Timer = []

@@ -68,7 +68,7 @@ pub struct MsgqNumbers {
     pub max_msgs: i64,
 }
 
-/// The kind of an object, and what the description says of it beside. Without numbers it isn't initialised.
+/// The kind of an object, and what the description says of it beside. Where numbers could stand and don't it isn't initialised.
 #[derive(Clone, Copy, PartialEq, Eq)]
 pub enum Details {
     Thread,
@@ -78,6 +78,7 @@ pub enum Details {
     Msgq { numbers: Option<MsgqNumbers> },
     Stack { entries: Option<i64> },
     Pipe { size: Option<i64> },
+    Timer,
 }
 
 /// A static object.
@@ -108,6 +109,14 @@ pub struct ScriptEntry {
     pub lines: Sequence<Text>,
 }
 
+/// A word in memory on which threads wait.
+#[derive(Drop)]
+pub struct FutexEntry {
+    pub name: Name,
+    pub partition: Text,
+    pub offset: i64,
+}
+
 /// What a document says. The read-only data are its bytes, none where the key is absent.
 #[derive(Drop)]
 pub struct Description {
@@ -121,4 +130,5 @@ pub struct Description {
     pub objects: Sequence<ObjectEntry>,
     pub boots: Sequence<BootEntry>,
     pub scripts: Sequence<ScriptEntry>,
+    pub futexes: Sequence<FutexEntry>,
 }

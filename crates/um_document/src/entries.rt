@@ -5,8 +5,8 @@ ghost use Rattle.toml.specs.{Data.{Members}, View.{view, array_view, table_view}
 ghost use Rattle.um_document.specs.Reading as reading;
 
 use crate::description::{
-    Alignment, BootEntry, Details, DomainEntry, MsgqNumbers, ObjectEntry, PartitionContents,
-    PartitionEntry, PoolEntry, ScriptEntry, SemNumbers, VariableEntry,
+    Alignment, BootEntry, Details, DomainEntry, FutexEntry, MsgqNumbers, ObjectEntry,
+    PartitionContents, PartitionEntry, PoolEntry, ScriptEntry, SemNumbers, VariableEntry,
 };
 use crate::sequence::Sequence;
 use crate::shape::{Key, Section};
@@ -163,6 +163,7 @@ fn details(table: &Table, kind: Kind) -> Details
         Kind::Pipe => Details::Pipe {
             size: number_given(table, Key::Size),
         },
+        Kind::Timer => Details::Timer,
     }
 }
 
@@ -204,6 +205,18 @@ impl Entry for ScriptEntry {
         Ok(ScriptEntry {
             name: name_at(table),
             lines: copies_at(alloc, table, Key::Lines)?,
+        })
+    }
+}
+
+impl Entry for FutexEntry {
+    ghost of = { reading.futex_of };
+
+    fn read(alloc: Global, table: &Table) -> Result<FutexEntry, OutOfMemory> {
+        Ok(FutexEntry {
+            name: name_at(table),
+            partition: copy_at(alloc, table, Key::Partition)?,
+            offset: number_at(table, Key::Offset),
         })
     }
 }

@@ -20,7 +20,7 @@ mod unknown;
 mod words;
 
 pub use description::{
-    Alignment, BootEntry, Description, Details, DomainEntry, MsgqNumbers, ObjectEntry,
+    Alignment, BootEntry, Description, Details, DomainEntry, FutexEntry, MsgqNumbers, ObjectEntry,
     PartitionContents, PartitionEntry, PoolEntry, ScriptEntry, SemNumbers, VariableEntry,
 };
 pub use fault::ImageFault;

@@ -35,6 +35,7 @@ fn description(alloc: Global, table: &Table) -> Result<Description, OutOfMemory>
         objects: entries_at(alloc, table, Section::Object)?,
         boots: entries_at(alloc, table, Section::Boot)?,
         scripts: entries_at(alloc, table, Section::Script)?,
+        futexes: entries_at(alloc, table, Section::Futex)?,
     })
 }
 

@@ -23,6 +23,8 @@ pub enum Section {
     Boot,
     /// `script`: scripts, at most 32.
     Script,
+    /// `futex`: words in memory on which threads wait, at most 16.
+    Futex,
 }
 
 /// The keys of all tables, each written as its name in lower case with `_` between words.
@@ -40,7 +42,7 @@ pub enum Key {
     Rodata,
     /// Of the whole the section, of a boot entry the name of its resource pool (`k_thread_heap_assign`).
     Pool,
-    /// Of the whole: the section (`K_APPMEM_PARTITION_DEFINE`).
+    /// Of the whole the section (`K_APPMEM_PARTITION_DEFINE`), of a futex the name of its partition.
     Partition,
     /// Of the whole the section, of a boot entry the name of its memory domain (`k_mem_domain`).
     Domain,
@@ -92,6 +94,10 @@ pub enum Key {
     Grants,
     /// Of a script: its lines, 1 to 1,000.
     Lines,
+    /// Of the whole: the section, in Zephyr `k_futex`.
+    Futex,
+    /// Of a futex: where it lies in its partition, 0 to the partition's size less 4.
+    Offset,
 }
 
 /// What a word may say.
@@ -178,6 +184,8 @@ impl Key {
             Key::Mode => "mode",
             Key::Grants => "grants",
             Key::Lines => "lines",
+            Key::Futex => "futex",
+            Key::Offset => "offset",
         }
     }
 }
@@ -190,6 +198,7 @@ pub const FIRST_SECTIONS: &[Section] = &[
     Section::Object,
     Section::Boot,
     Section::Script,
+    Section::Futex,
 ];
 
 /// The sections of version 2, in their order.
@@ -200,6 +209,7 @@ pub const SECOND_SECTIONS: &[Section] = &[
     Section::Object,
     Section::Boot,
     Section::Script,
+    Section::Futex,
 ];
 
 /// The keys of the whole document.
@@ -215,6 +225,7 @@ const TOP: &[Field] = &[
     (Key::Object, Form::Tables, Need::Optional),
     (Key::Boot, Form::Tables, Need::Optional),
     (Key::Script, Form::Tables, Need::Optional),
+    (Key::Futex, Form::Tables, Need::Optional),
 ];
 
 /// The name that an entry has.
@@ -264,6 +275,12 @@ const BOOT: &[Field] = &[
 
 const SCRIPT: &[Field] = &[NAME, (Key::Lines, Form::Texts, Need::Required)];
 
+const FUTEX: &[Field] = &[
+    NAME,
+    (Key::Partition, Form::Text, Need::Required),
+    (Key::Offset, Form::Number, Need::Required),
+];
+
 const THREAD_STACK: &[Field] = &[SIZE];
 
 const SEM: &[Field] = &[
@@ -308,6 +325,7 @@ impl Section {
             Section::Object => Key::Object,
             Section::Boot => Key::Boot,
             Section::Script => Key::Script,
+            Section::Futex => Key::Futex,
         }
     }
 
@@ -323,6 +341,7 @@ impl Section {
             Section::Object => OBJECT,
             Section::Boot => BOOT,
             Section::Script => SCRIPT,
+            Section::Futex => FUTEX,
         }
     }
 }
@@ -332,7 +351,7 @@ pub fn kind_fields(kind: Kind) -> &'static [Field]
     ensures { result.now ≡ shape.kind_fields kind }
 {
     match kind {
-        Kind::Thread => &[],
+        Kind::Thread | Kind::Timer => &[],
         Kind::ThreadStack => THREAD_STACK,
         Kind::Sem => SEM,
         Kind::Mutex => MUTEX,

@@ -14,7 +14,9 @@ from (suc (suc (suc zero)), i) = Site.object i
 from (suc (suc (suc (suc zero))), i) = Site.parts i
 from (suc (suc (suc (suc (suc zero)))), i) = Site.memory
 from (suc (suc (suc (suc (suc (suc zero))))), i) = Site.heap
-from (suc (suc (suc (suc (suc (suc (suc n)))))), i) = Site.scheduler
+from (suc (suc (suc (suc (suc (suc (suc zero)))))), i) = Site.scheduler
+from (suc (suc (suc (suc (suc (suc (suc (suc zero))))))), i) = Site.clock
+from (suc (suc (suc (suc (suc (suc (suc (suc (suc n)))))))), i) = Site.joins
 
 back : (a : Site) → from (site_code a) ≡ a
 unfolding from
@@ -26,6 +28,8 @@ back (Site.parts d) = refl
 back Site.memory = refl
 back Site.heap = refl
 back Site.scheduler = refl
+back Site.clock = refl
+back Site.joins = refl
 
 pub same-sound : (a b : Site) → same_site a b ≡ true → a ≡ b
 same-sound a b h =
@@ -46,12 +50,14 @@ number-back (Site.parts d) h = grind arith
 number-back Site.memory h = refl
 number-back Site.heap h = refl
 number-back Site.scheduler h = refl
+number-back Site.clock h = refl
+number-back Site.joins h = refl
 
 -- sites with one number are the same
 pub number-sound : (i j : Site) → IsTrue (is_site i) → IsTrue (is_site j) → site_number i ≡ site_number j → i ≡ j
 number-sound i j h k e = sym (number-back i h) ∙ (ap site_numbered e ∙ number-back j k)
 
-pub number-bound : (i : Site) → IsTrue (is_site i) → site_number i < 307
+pub number-bound : (i : Site) → IsTrue (is_site i) → site_number i < 309
 number-bound (Site.row x) h = omega (arith, ltb-true x 128 h)
 number-bound (Site.thread t) h = omega (arith, ltb-true t 32 h)
 number-bound (Site.domain d) h = omega (arith, ltb-true d 8 h)
@@ -60,3 +66,5 @@ number-bound (Site.parts d) h = omega (arith, ltb-true d 8 h)
 number-bound Site.memory h = omega arith
 number-bound Site.heap h = omega arith
 number-bound Site.scheduler h = omega arith
+number-bound Site.clock h = omega arith
+number-bound Site.joins h = omega arith

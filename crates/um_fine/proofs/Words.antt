@@ -18,11 +18,14 @@ use Rattle.um_fine.specs.Threads.{thread_answers}
 use Rattle.um_fine.specs.Sites.{SiteMay, SiteState}
 
 says-shown : (w : ThreadWord) (t : ThreadIx) (more : More) (act : Act)
-    → let a = FineAct.Shown (record { thread = t; act = act }) more in thread_answers w a ≡ a → thread_says a ≡ a
+    → let a = FineAct.Shown (record { thread = t; act = act }) more in thread_answers w a ≡ a → thread_says w a ≡ a
 says-shown w t more (Act.Check a kind want verdict) h = h
+says-shown w t more (Act.Abort who done) h = h
+says-shown w t more (Act.Suspend who done) h = h
+says-shown w t more (Act.Continue who done) h = h
 says-shown w t more act h = refl
 
-says-act : (w : ThreadWord) (act : FineAct) → thread_answers w act ≡ act → thread_says act ≡ act
+says-act : (w : ThreadWord) (act : FineAct) → thread_answers w act ≡ act → thread_says w act ≡ act
 says-act w (FineAct.Shown event more) h = says-shown w event.thread more event.act h
 says-act w (FineAct.Unseen unseen) h = refl
 

@@ -8,11 +8,13 @@ use Rattle.um_base.specs.declared.act.Event.{Event}
 use Rattle.um_base.specs.declared.ask.Ask.{Ask}
 use Rattle.um_base.specs.declared.ask.Told.{Told}
 use Rattle.um_base.specs.declared.ask.Waiter.{Waiter}
+use Rattle.um_base.specs.declared.names.ThreadIx.{ThreadIx}
 use Rattle.um_base.specs.Regions.{Partitions}
 use Rattle.um_machine.specs.declared.object.Cost.{Cost}
 use Rattle.um_machine.specs.declared.thread.Life.{Life}
-pub use Rattle.um_machine.specs.Outcomes.{answer_in, domain_reply_in, fits_in, found_in, given_in, is_fault, leftover_in, reserved_in, set_in, value_in, verdict_in, woken_in}
+pub use Rattle.um_machine.specs.Outcomes.{answer_in, deadline_in, domain_reply_in, fits_in, found_in, given_in, is_done_in, is_fault, leftover_in, now_in, reserved_in, set_in, value_in, verdict_in, woken_in}
 use Rattle.um_words.specs.declared.fine.FineAct.{FineAct}
+use Rattle.um_words.specs.declared.fine.Mark.{Mark}
 use Rattle.um_words.specs.declared.fine.Unseen.{Unseen}
 use Rattle.um_words.specs.declared.row_word.RowWord.{RowWord}
 use Rattle.um_words.specs.declared.row_word.Stage.{Stage}
@@ -42,7 +44,36 @@ abbrev pub is_word_read : FineAct → Bool
 is_word_read (FineAct.Unseen Unseen.WordRead) = true
 is_word_read _ = false
 
+abbrev pub is_void : FineAct → Bool
+is_void (FineAct.Unseen Unseen.Void) = true
+is_void _ = false
+
+abbrev pub is_killed_act : Act → Bool
+is_killed_act Act.Killed = true
+is_killed_act _ = false
+
+abbrev pub is_killed : FineAct → Bool
+is_killed (FineAct.Shown event more) = is_killed_act event.act
+is_killed _ = false
+
+abbrev pub is_shut_act : FineAct → Bool
+is_shut_act (FineAct.Unseen (Unseen.Shut who)) = true
+is_shut_act _ = false
+
+abbrev pub is_due_act : FineAct → Bool
+is_due_act (FineAct.Unseen Unseen.Due) = true
+is_due_act _ = false
+
+abbrev pub is_tick_act : Act → Bool
+is_tick_act (Act.Tick now) = true
+is_tick_act _ = false
+
+abbrev pub is_tick : FineAct → Bool
+is_tick (FineAct.Shown event more) = is_tick_act event.act
+is_tick _ = false
+
 abbrev pub ready_in : FineAct → Bool
+ready_in (FineAct.Unseen (Unseen.Cut who ready)) = ready
 ready_in (FineAct.Unseen (Unseen.Wake who ready)) = ready
 ready_in (FineAct.Unseen (Unseen.Park who ready)) = ready
 ready_in _ = false
@@ -58,15 +89,40 @@ abbrev pub no_outcome : Outcome
 no_outcome = record { answer = Answer.Wait; taken = []; woken = [] }
 
 abbrev pub outcome_in : Exchange → Outcome
-outcome_in (Exchange.asked caller outcome) = outcome
+outcome_in (Exchange.asked caller noted outcome) = outcome
 outcome_in _ = no_outcome
 
 abbrev pub no_caller : Waiter
-no_caller = record { thread = record { 0 = 0 }; priority = pos 0; ask = Ask.SemGive; bytes = [] }
+no_caller = record { thread = record { 0 = 0 }; priority = pos 0; ask = Ask.SemGive; bytes = []; until = None }
 
 abbrev pub caller_in : Exchange → Waiter
-caller_in (Exchange.asked caller outcome) = caller
+caller_in (Exchange.asked caller noted outcome) = caller
 caller_in _ = no_caller
+
+abbrev pub noted_in : Exchange → ℕ
+noted_in (Exchange.asked caller noted outcome) = noted
+noted_in _ = 0
+
+abbrev pub ticks_in : Exchange → ℕ
+ticks_in (Exchange.armed ticks mark) = ticks
+ticks_in _ = 0
+
+abbrev pub no_mark : Mark
+no_mark = Mark.Timer (record { 0 = 0 })
+
+abbrev pub mark_in : Exchange → Mark
+mark_in (Exchange.armed ticks mark) = mark
+mark_in (Exchange.mark deadline mark) = mark
+mark_in _ = no_mark
+
+-- the deadline of a mark
+abbrev pub due_in : Exchange → ℕ
+due_in (Exchange.mark deadline mark) = deadline
+due_in _ = 0
+
+abbrev pub sought_in : Exchange → ThreadIx
+sought_in (Exchange.sought who before) = who
+sought_in _ = record { 0 = 0 }
 
 abbrev pub charge_in : Exchange → Option Cost
 charge_in (Exchange.charge cost) = cost
@@ -105,7 +161,18 @@ abbrev pub no_row : RowWord
 no_row = record { permissions = []; init = false; public = false; dynamic = false; stage = Stage.Free; claims = 0; number = 0 }
 
 abbrev pub no_thread : ThreadWord
-no_thread = record { life = Life.Unborn; doomed = false; held = false; mode = Mode.User; domain = 0; number = 0 }
+no_thread =
+    record {
+      life = Life.Unborn;
+      doomed = false;
+      held = false;
+      mode = Mode.User;
+      domain = 0;
+      aborted = false;
+      suspended = false;
+      note = None;
+      number = 0;
+    }
 
 abbrev pub no_domain : DomWord
 no_domain = record { init = false; writer = false; readers = 0; version = 0; number = 0 }

@@ -24,6 +24,7 @@ changed_part (Change.register to value) c = record c { registers = slice_set c.r
 changed_part (Change.copies bs) c = record c { buffer = bs }
 changed_part (Change.says reply) c = record c { reply = reply }
 changed_part (Change.outcome reply taken) c = record c { reply = reply; buffer = taken }
+changed_part (Change.until deadline) c = record c { until = deadline }
 
 -- with one more row that its call holds, where the check is ok
 abbrev pub held_part : ℕ → Option Errno → Context → Context
@@ -46,7 +47,7 @@ module _ (image : Image) where
 
   -- it ends, or dooms all
   abbrev pub ends_with : Context → Steps → Context
-  ends_with c steps = record c { ended = true; claims = []; pending = steps }
+  ends_with c steps = record c { ended = true; claims = []; until = None; noted = None; pending = steps }
 
   -- The own part of a thread that goes on so, with these steps behind the one that it made. A thread's child, its pairs that are due and the
   -- mark of its own object are no own part.
@@ -54,7 +55,7 @@ module _ (image : Image) where
   gone_part left Next.stays c = c
   gone_part left (Next.on change way) c = goes_on (changed_part change c) (steps_by left way)
   gone_part left (Next.checks x verdict way) c = goes_on (held_part x verdict c) (steps_by left way)
-  gone_part left (Next.answers to reply) c = goes_on (record c { claims = []; registers = with_answer c.registers to reply }) left
+  gone_part left (Next.answers to reply) c = goes_on (record c { claims = []; until = None; noted = None; registers = with_answer c.registers to reply }) left
   gone_part left (Next.owns keeps) c = goes_on c left
   gone_part left (Next.begins instr) c = begun c instr
   gone_part left (Next.resumes None) c = c

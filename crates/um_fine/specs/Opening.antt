@@ -1,9 +1,9 @@
 -- The opening: what the sites keep of a state in which nobody runs, and a processor that has no thread.
-use Rattle.std.specs.Prelude.{ℕ, ◌+◌, Bool, true, false, nat_le, List, [], ◌∷◌, map, replicate, Option, Some, None, is_some, slice_index_or}
+use Rattle.std.specs.Prelude.{ℕ, ◌+◌, Bool, true, false, not, nat_le, List, [], ◌∷◌, map, replicate, Option, Some, None, is_some, slice_index_or}
 use Rattle.um_base.specs.declared.image.Boot.{Boot}
 use Rattle.um_base.specs.declared.image.Image.{Image}
 use Rattle.um_base.specs.declared.limits.TheConstants.{STATIC_ROWS, THREADS}
-use Rattle.um_base.specs.Places.{thread_of_row}
+use Rattle.um_base.specs.Places.{own_row, thread_of_row}
 use Rattle.um_machine.specs.declared.object.Object.{Object}
 use Rattle.um_machine.specs.declared.thread.Thread.{Thread}
 use Rattle.um_machine.specs.State.{State, thread_at, object_at, is_living}
@@ -34,6 +34,9 @@ abbrev pub parked_if : Bool → Context → Option Context
 parked_if true c = Some c
 parked_if false c = None
 
+abbrev pub no_notes : List ℕ
+no_notes = replicate THREADS 0
+
 -- a cell that has taken no step
 abbrev pub new_cell : Cell → SiteState
 new_cell c = SiteState.cell 0 c
@@ -57,14 +60,25 @@ module _ (s : State) where
   abbrev pub thread_state : ℕ → SiteState
   thread_state t =
       let me = thread_at s t in
-      SiteState.thread (record { life = me.life; doomed = me.doomed; held = false; mode = me.mode; domain = me.domain; number = 0 })
+      SiteState.thread
+      (record {
+        life = me.life;
+        doomed = me.doomed;
+        held = false;
+        mode = me.mode;
+        domain = me.domain;
+        aborted = false;
+        suspended = false;
+        note = None;
+        number = 0;
+      })
 
   abbrev pub domain_state : ℕ → SiteState
   domain_state d =
       SiteState.domain (record { init = is_some (domain_at s d); writer = false; readers = 0; version = 0; number = 0 })
 
   abbrev pub object_cell : ℕ → Cell
-  object_cell x = let o = object_at s x in Cell.object (record { contents = o.contents; waiters = o.waiters; buffer = o.buffer })
+  object_cell x = let o = object_at s x in Cell.object (record { contents = o.contents; waiters = o.waiters; noted = no_notes; buffer = o.buffer })
 
   -- the addresses of the dynamic rows are free
   abbrev pub heap_cell : Cell
@@ -88,7 +102,23 @@ module _ (s : State) where
         parked = indexed (λ t (me : Thread). parked_if (is_living me.life) (context_of t me)) 0 s.threads;
         told = replicate THREADS None;
         priorities = map (λ (me : Thread). me.priority) s.threads;
+        cuts = replicate THREADS false;
         running = 0;
+        owed = 0;
+      })
+
+  -- nobody joins a thread whose object isn't initialised
+  abbrev pub is_shut_at : ℕ → Thread → Bool
+  is_shut_at t me = not (object_at s (own_row s.image t)).init
+
+  abbrev pub joins_cell : Cell
+  joins_cell =
+      Cell.joins
+      (record {
+        waiters = [];
+        noted = no_notes;
+        shut = indexed is_shut_at 0 s.threads;
+        asleep = replicate THREADS None;
       })
 
   abbrev pub site_state : Site → SiteState
@@ -97,9 +127,11 @@ module _ (s : State) where
   site_state (Site.domain d) = domain_state d
   site_state (Site.object x) = new_cell (object_cell x)
   site_state (Site.parts d) = new_cell (Cell.parts (domain_at s d))
-  site_state Site.memory = new_cell (Cell.memory (record { memory = s.memory; stacks = s.stacks }))
+  site_state Site.memory = new_cell (Cell.memory (record { memory = s.memory; stacks = s.stacks; futexes = []; noted = no_notes }))
   site_state Site.heap = new_cell heap_cell
   site_state Site.scheduler = new_cell scheduler_cell
+  site_state Site.clock = new_cell (Cell.clock (record { now = 0; marks = [] }))
+  site_state Site.joins = new_cell joins_cell
 
 -- the sites of an image
 abbrev pub s_start : Image → Site → SiteState

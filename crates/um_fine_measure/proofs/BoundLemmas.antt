@@ -1,30 +1,28 @@
--- No fine run of a described image has more steps than the weight of the image: before each step the relation with the access-matrix machine
--- holds, so that the processor is one that may make it.
-use Rattle.std.proofs.Common.{◌≡◌, ◌≤◌, ℕ, true, false, List, [], ◌∷◌, length, refl, sym, ap, subst, arith}
-use Rattle.std.proofs.lemmas.Bool.{false≢true}
+-- No fine run of a described image, by at most so many processors, has more steps than the weight of the image: before each step the relation with
+-- the access-matrix machine holds, so that the processor is one that may make it.
+use Rattle.std.proofs.Common.{◌≡◌, ◌≤◌, ℕ, List, [], ◌∷◌, ◌++◌, length, sym, ap, subst, arith}
 use Rattle.um_base.specs.Weight.{weight}
 use Rattle.um_base.specs.declared.act.Event.{Event}
 use Rattle.um_base.specs.declared.image.Image.{Image}
 use Rattle.um_machine.specs.Run.{Runs, opening}
-use Rattle.um_machine.specs.Services.{is_empty}
 use Rattle.um_machine.specs.State.{State}
 use Rattle.um_measure.specs.Reached.{IsReached}
 use Rattle.um_measure.proofs.OpenLemmas.{opens}
 use Rattle.um_measure.proofs.StepLemmas.{keeps}
 use Rattle.um_invariants.specs.Described.{IsDescribed}
-use Rattle.um_fine.specs.Asks.{says, site_at}
 use Rattle.um_fine.specs.Erasure.{shown}
 use Rattle.um_fine.specs.FineRun.{ByOneOf, IsFineRun}
-use Rattle.um_fine.specs.Places.{Todos}
 use Rattle.um_fine.specs.Sites.{SiteMay}
 use Rattle.um_fine.specs.Steps.{FineStep}
 use Rattle.um_refinement.specs.After.{left_by}
-use Rattle.um_refinement.specs.Lists.{has_steps}
 use Rattle.um_refinement.specs.Relation.{Rel}
-use Rattle.um_fine_measure.specs.Ready.{MayStep}
-use Rattle.um_fine_measure.proofs.OfferLemmas.{may-step}
-use Rattle.um_fine_measure.proofs.RunLemmas.{StepsFall, processors, run-bounded, sites}
+use Rattle.um_refinement.proofs.Erased.{later}
+use Rattle.um_fine_measure.specs.Measure.{MOST_CPUS}
+use Rattle.um_fine_measure.specs.Whole.{whole_cost}
+use Rattle.um_fine_measure.proofs.OfferLemmas.{are-cut, may-step}
+use Rattle.um_fine_measure.proofs.RunLemmas.{StepFalls, StepsFall, left-now, processors, run-bounded, sites}
 use Rattle.um_fine_measure.proofs.StepLemmas.{step-falls}
+use Rattle.um_fine_measure.proofs.WholeLemmas.{whole-falls}
 
 -- a run keeps what the states of a run have in common
 reached-run : (s : State) (events : List Event) (s2 : State) → IsReached s → Runs s events s2 → IsReached s2
@@ -38,37 +36,21 @@ module _ (image : Image) (cpus : ℕ) (described : IsDescribed image) where
       (h : List FineStep) → IsFineRun image cpus h
       → (last : State) × Runs (opening image) (shown h) last × Rel (left_by image cpus h) last
 
-  runs-some : (todo : Todos) → is_empty todo ≡ false → has_steps todo ≡ true
-  runs-some [] h = absurd (false≢true (sym h))
-  runs-some (q ∷ todo) h = refl
-
-  module _ (h : List FineStep) (e : FineStep) (by : ByOneOf image cpus (processors image h e.cpu) e) (may : SiteMay image (sites image h e.site) e) where
-    site-made : e.site ≡ site_at image (processors image h e.cpu) (processors image h e.cpu).todo
-    site-made = sym (ap (λ (g : FineStep). g.site) by.may.makes)
-
-    act-made : e.act ≡ says image (processors image h e.cpu) (processors image h e.cpu).todo e.act e.moved
-    act-made = sym (ap (λ (g : FineStep). g.act) by.may.makes)
-
-    -- a processor may make its step where the relation holds
-    related-step : (m : State) → IsReached m → Rel (left_by image cpus h) m → MayStep image (processors image h e.cpu) e.moved (processors image h e.cpu).todo
+  module _ (few : cpus ≤ MOST_CPUS) (h : List FineStep) (e : FineStep) (by : ByOneOf image cpus (processors image h e.cpu) e) (taken : SiteMay image (sites image h e.site) e) where
+    -- a step lowers what is left where the relation holds
+    related-step : (m : State) → IsReached m → Rel (left_by image cpus h) m → StepFalls image cpus h e
     related-step m reached related =
-        let p = processors image h e.cpu in
-        may-step image p e (sites image h e.site) may p.todo site-made act-made
-        (λ some.
-        record {
-          state = m;
-          same = related.image;
-          reached = reached;
-          run = related.contexts.running e.cpu by.named (runs-some p.todo some);
-          sort = related.sorts e.site;
-          fits = (related.processors e.cpu by.named).list.fits;
-        })
+        let f = left_by image cpus h in
+        let here = step-falls image described.lawful (processors image h e.cpu) (sites image h e.site) e by.may taken (are-cut f m related e.site) (may-step f m related reached e by taken) in
+        let whole = whole-falls f m related e by taken few in
+        let now : whole_cost (left_by image cpus (h ++ e ∷ [])) ≡ whole_cost (later f e) = ap whole_cost (left-now image cpus h e) in
+        omega (arith, here, whole, now)
 
-  steps-fall : Relates → StepsFall image cpus
-  steps-fall relates h e run before by may =
+  steps-fall : cpus ≤ MOST_CPUS → Relates → StepsFall image cpus
+  steps-fall few relates h e run before by taken =
       let r = relates h run in
       let reached = reached-run (opening image) (shown h) r.0 (opens image described.lawful described.few).0 r.1 in
-      step-falls image described.lawful (processors image h e.cpu) (sites image h e.site) e by.may may (related-step h e by may r.0 reached r.2)
+      related-step few h e by taken r.0 reached r.2
 
-  pub within-weight : Relates → (h : List FineStep) → IsFineRun image cpus h → length h ≤ weight image
-  within-weight relates h run = let bound = run-bounded image cpus described.lawful (steps-fall relates) h run [] tt in omega (arith, bound)
+  pub within-weight : cpus ≤ MOST_CPUS → Relates → (h : List FineStep) → IsFineRun image cpus h → length h ≤ weight image
+  within-weight few relates h run = let bound = run-bounded image cpus described.lawful (steps-fall few relates) h run [] tt in omega (arith, bound)

@@ -15,10 +15,10 @@ use Rattle.um_base.specs.declared.names.Policy.{Policy}
 use Rattle.um_base.specs.declared.names.Reply.{Reply}
 use Rattle.um_machine.specs.declared.pending.Pending.{Pending}
 use Rattle.um_machine.specs.declared.pending.Refusal.{Refusal}
-use Rattle.um_machine.specs.Order.{Steps, end_steps, fatal_steps}
+use Rattle.um_machine.specs.Order.{Steps, end_steps, fatal_steps, to_deadline}
 use Rattle.um_machine.specs.Services.{is_empty}
 use Rattle.um_machine.specs.State.{next_place}
-use Rattle.um_machine.specs.Goes.{Way, checked_way, copied, error_way, next_doom, no_access, reserve_way, set_way, steps_by, text_way, without_copy, work_way}
+use Rattle.um_machine.specs.Goes.{Way, asked_way, checked_way, copied, error_way, next_doom, no_access, reserve_way, set_way, steps_by, text_way, without_copy, work_way}
 use Rattle.um_measure.specs.Measure.{lines_ahead, lines_left}
 use Rattle.um_fine.specs.Context.{Context, as_thread}
 use Rattle.um_fine.specs.Continues.{goes_on}
@@ -37,11 +37,17 @@ abbrev pub way_cost : Way → ℕ
 way_cost (Way.bears a) = 1 + cleaning_cost
 way_cost (Way.replies reply) = 1
 way_cost (Way.gives_back size reason cause) = 1
-way_cost (Way.clears a reason cause) = 2
+way_cost (Way.clears a reason cause) = 3
 way_cost way = 0
+
+-- a timer that is started to a deadline
+deadline-cost : (image : Image) (d : ℕ) (steps : Steps) → steps_cost image (to_deadline d steps) ≡ steps_cost image steps
+deadline-cost image d (Pending.Work a (Ask.TimerStart e) ∷ steps) = refl
+deadline-cost image d steps = refl
 
 pub way-cost : (image : Image) (way : Way) (steps : Steps) → steps_cost image (steps_by steps way) ≤ way_cost way + steps_cost image steps
 way-cost image Way.skips_copy steps = let less = without-cost image steps in omega (arith, less)
+way-cost image (Way.runs_to d) steps = let same = deadline-cost image d steps in omega (arith, same)
 way-cost image way steps = omega arith
 
 pub fault-way : (b : Bool) → way_cost (if b then no_access else Way.rest) ≡ 0
@@ -62,6 +68,8 @@ refused-way mode Refusal.Fails e = omega arith
 refused-way Mode.User Refusal.FailsUser e = omega arith
 refused-way Mode.Supervisor Refusal.FailsUser e = omega arith
 refused-way mode (Refusal.Answers reply) e = omega arith
+refused-way mode (Refusal.AnswersUninit reply) Errno.EINVAL = omega arith
+refused-way mode (Refusal.AnswersUninit reply) e = omega arith
 
 error-way : (mode : Mode) (ask : Ask) (e : Errno) → way_cost (error_way mode ask e) ≤ 1
 error-way mode (Ask.SemInit count limit) e = omega arith
@@ -76,7 +84,11 @@ work-way mode ask Answer.Wait = omega arith
 work-way mode ask (Answer.Now (Reply.Fail e)) = let less = error-way mode ask e in omega (arith, less)
 work-way mode ask (Answer.Now reply) = omega arith
 
-pub set-way : (mode : Mode) (undo : Option Addr) (said : SetSaid) → way_cost (set_way mode undo said) ≤ 2
+pub asked-way : (answer : Answer) → way_cost (asked_way answer) ≡ 0
+asked-way Answer.Wait = refl
+asked-way (Answer.Now reply) = refl
+
+pub set-way : (mode : Mode) (undo : Option Addr) (said : SetSaid) → way_cost (set_way mode undo said) ≤ 3
 set-way mode None (SetSaid.Fail e) = omega arith
 set-way mode (Some a) (SetSaid.Fail e) = omega arith
 set-way mode undo said = omega arith
@@ -89,14 +101,14 @@ pub buffer-way : (fits : Bool) → way_cost (if fits then Way.rest else Way.repl
 buffer-way true = omega arith
 buffer-way false = omega arith
 
-pub end-cost : (image : Image) (t : ℕ) (c : Context) → steps_cost image (end_steps image t (as_thread c)) ≡ ROWS + 4
+pub end-cost : (image : Image) (t : ℕ) (c : Context) → steps_cost image (end_steps image t (as_thread c)) ≡ ROWS + 6
 end-cost image t c = refl
 
-pub fatal-cost : (image : Image) (t : ℕ) (c : Context) (reason : ℕ) (policy : Policy) → steps_cost image (fatal_steps image t (as_thread c) reason policy) ≤ ROWS + 4
+pub fatal-cost : (image : Image) (t : ℕ) (c : Context) (reason : ℕ) (policy : Policy) → steps_cost image (fatal_steps image t (as_thread c) reason policy) ≤ ROWS + 6
 fatal-cost image t c reason Policy.Halt = omega arith
 fatal-cost image t c reason Policy.Abort = by (reason == 4)
   where
-    by : (b : Bool) → steps_cost image (if b then Pending.Dooms 0 ∷ [] else end_steps image t (as_thread c)) ≤ ROWS + 4
+    by : (b : Bool) → steps_cost image (if b then Pending.Dooms 0 ∷ [] else end_steps image t (as_thread c)) ≤ ROWS + 6
     by true = omega arith
     by false = omega arith
 

@@ -1,5 +1,5 @@
 -- What the steps of a line cost, with its begin and the end of its turn.
-use Rattle.std.proofs.Common.{◌≡◌, ◌≤◌, ℕ, ◌+◌, Bool, true, false, ◌&&◌, ◌||◌, ◌∷◌, arith, if◌then◌else◌, Option, Some, None}
+use Rattle.std.proofs.Common.{◌≡◌, ◌≤◌, ℕ, ◌+◌, Bool, true, false, ◌&&◌, ◌||◌, [], ◌∷◌, arith, if◌then◌else◌, Option, Some, None}
 use Rattle.std.specs.Prelude.{◌==◌, nat_lt, unwrap_or, ℤ}
 use Rattle.std.proofs.lemmas.Bool.{and_parts, false≢true}
 use Rattle.um_base.specs.Lawful.{IsLawful, is_lawful_line, is_later, is_operand}
@@ -14,14 +14,15 @@ use Rattle.um_base.specs.declared.names.Errno.{Errno}
 use Rattle.um_base.specs.declared.names.Kind.{Kind}
 use Rattle.um_base.specs.declared.names.Mode.{Mode}
 use Rattle.um_base.specs.declared.names.Ref.{Ref}
+use Rattle.um_base.specs.declared.names.Timeout.{Timeout}
 use Rattle.um_base.specs.declared.names.Want.{Want}
 use Rattle.um_machine.specs.declared.pending.Pending.{Pending}
 use Rattle.um_machine.specs.declared.thread.Thread.{Thread}
-use Rattle.um_machine.specs.Order.{Steps, to_addr, needs, work, answer_error, answer_zero, buffered, privileged, creates, creation_refusal, stack_declared, number_of, steps_of}
+use Rattle.um_machine.specs.Order.{Steps, aborts, answer, answer_void, arms, to_addr, to_thread, needs, work, answer_error, answer_zero, buffered, privileged, creates, creation_refusal, stack_declared, number_of, steps_of}
 use Rattle.um_machine.specs.State.{value_of, first_place}
 use Rattle.um_measure.specs.Measure.{lines_left, weights_behind}
 use Rattle.um_measure.specs.Reached.{makes_steps}
-use Rattle.um_fine_measure.specs.Measure.{steps_cost, put_back_cost}
+use Rattle.um_fine_measure.specs.Measure.{rouse_cost, steps_cost, put_back_cost, waking_cost}
 use Rattle.um_measure.proofs.NextLemmas.{first-stands}
 use Rattle.um_measure.proofs.ScriptLemmas.{weight-later}
 
@@ -41,6 +42,19 @@ module _ (image : Image) where
   buffered-cost : (a : ℕ) (kind : Kind) (b : Bool) (size : ℕ) (ask : Ask) → CostsMost image 40 (buffered a kind b size ask)
   buffered-cost a kind true size ask = omega arith
   buffered-cost a kind false size ask = omega arith
+
+  -- with a number of ticks a deadline is armed
+  arms-cost : (timeout : Timeout) (steps : Steps) → steps_cost image (arms timeout steps) ≤ 7 + steps_cost image steps
+  arms-cost Timeout.NoWait steps = omega arith
+  arms-cost Timeout.Forever steps = omega arith
+  arms-cost (Timeout.Ticks n) steps = omega arith
+
+  aborts-cost : (t who : ℕ) → steps_cost image (aborts t who) ≤ 2 + rouse_cost + waking_cost
+  aborts-cost t who = by (who == t)
+    where
+      by : (b : Bool) → steps_cost image (Pending.Abort (to_thread who) ∷ (if b then Pending.Killed ∷ [] else answer_void)) ≤ 2 + rouse_cost + waking_cost
+      by true = omega arith
+      by false = omega arith
 
   -- what a script that a line names costs, from its first place on
   script-cost : IsLawful image → (i : ℕ) (script : Ref) → is_later image i script ≡ true → lines_left image (first_place image (number_of script)) + 240 ≤ weight_named (weights_behind image i) i script
@@ -84,4 +98,25 @@ module _ (image : Image) where
   line-cost lawful i t me (Instr.MsgqInit object msg_size max_msgs) h makes = buffered-cost _ Kind.Msgq _ _ _
   line-cost lawful i t me (Instr.StackInit object entries) h makes = buffered-cost _ Kind.Stack _ _ _
   line-cost lawful i t me (Instr.PipeInit object size) h makes = buffered-cost _ Kind.Pipe _ _ _
+  line-cost lawful i t me (Instr.SemTake object timeout) h makes =
+      let armed = arms-cost timeout (work (value_of me.registers object) (Ask.SemTake timeout) ∷ answer) in omega (arith, armed)
+  line-cost lawful i t me (Instr.MutexLock object timeout) h makes =
+      let armed = arms-cost timeout (work (value_of me.registers object) (Ask.MutexLock timeout) ∷ answer) in omega (arith, armed)
+  line-cost lawful i t me (Instr.MsgqPut object addr timeout) h makes =
+      let armed = arms-cost timeout (work (value_of me.registers object) (Ask.MsgqPut timeout) ∷ answer) in omega (arith, armed)
+  line-cost lawful i t me (Instr.MsgqGet object addr timeout) h makes =
+      let armed = arms-cost timeout (work (value_of me.registers object) (Ask.MsgqGet timeout) ∷ Pending.CopyOut (to_addr (value_of me.registers addr)) ∷ answer) in omega (arith, armed)
+  line-cost lawful i t me (Instr.StackPop object addr timeout) h makes =
+      let armed = arms-cost timeout (work (value_of me.registers object) (Ask.StackPop timeout) ∷ Pending.CopyOut (to_addr (value_of me.registers addr)) ∷ answer) in omega (arith, armed)
+  line-cost lawful i t me (Instr.PipeWrite object addr length timeout) h makes =
+      let armed = arms-cost timeout (work (value_of me.registers object) (Ask.PipeWrite (value_of me.registers length) timeout) ∷ answer) in omega (arith, armed)
+  line-cost lawful i t me (Instr.PipeRead object addr length timeout) h makes =
+      let armed = arms-cost timeout (work (value_of me.registers object) (Ask.PipeRead (value_of me.registers length) timeout) ∷ Pending.CopyOut (to_addr (value_of me.registers addr)) ∷ answer) in
+      omega (arith, armed)
+  line-cost lawful i t me (Instr.Abort thread) h makes =
+      let cost = aborts-cost t (thread_of_addr image (value_of me.registers thread)) in omega (arith, cost)
+  line-cost lawful i t me (Instr.Join thread timeout) h makes =
+      let armed = arms-cost timeout (Pending.Join (to_thread (thread_of_addr image (value_of me.registers thread))) timeout ∷ answer) in omega (arith, armed)
+  line-cost lawful i t me (Instr.FutexWait addr value timeout) h makes =
+      let armed = arms-cost timeout (Pending.FutexWait (to_addr (value_of me.registers addr)) (value_of me.registers value) timeout ∷ answer) in omega (arith, armed)
   line-cost lawful i t me line h makes = omega arith

@@ -23,10 +23,14 @@ use Rattle.um_words.specs.declared.row_word.Stage.{Stage}
 use Rattle.um_fine.specs.Context.{context_of}
 use Rattle.um_fine.specs.Opening.{indexed, parked_if, s_start, stage_of}
 use Rattle.um_fine.specs.Steps.{Site}
+use Rattle.um_refinement.specs.After.{left_by}
+use Rattle.um_refinement.specs.Fine.{one_if}
+use Rattle.um_fine_measure.specs.Whole.{may_rouse, may_sleep, rouses_left, sleeps_left, whole_cost}
 use Rattle.um_fine_measure.specs.Measure.{place_cost, site_cost, stage_cost, told_cost}
 use Rattle.um_measure.proofs.NextLemmas.{first-stands}
 use Rattle.um_measure.proofs.ScriptLemmas.{weight-script}
 use Rattle.um_measure.proofs.TotalLemmas.{total-set}
+use Rattle.um_fine_measure.proofs.SumLemmas.{total-none}
 
 total-replicate : {A : Type 0} (f : A → ℕ) (x : A) → f x ≡ 0 → (n : ℕ) → total f (replicate n x) ≡ 0
 total-replicate f x h zero = refl
@@ -142,6 +146,8 @@ module _ (image : Image) where
       omega (arith, none)
   others-start lawful (Site.parts d) = refl
   others-start lawful Site.memory = refl
+  others-start lawful Site.clock = refl
+  others-start lawful Site.joins = let none = total-replicate (place_cost image) None refl THREADS in omega (arith, none)
   others-start lawful Site.heap = refl
   others-start lawful Site.scheduler = tt
 
@@ -157,3 +163,11 @@ module _ (image : Image) where
       let cost = (opens lawful).cost in
       let parked = indexed-cost 0 (opening image).threads in
       let told = total-replicate told_cost None refl THREADS in omega (arith, cost, parked, told)
+
+  -- and nobody is suspended, and no processor has a list
+  pub whole-start : (cpus : ℕ) → whole_cost (left_by image cpus []) ≡ 0
+  unfolding sleeps_left rouses_left
+  whole-start cpus =
+      let f = left_by image cpus [] in
+      let sleeps = total-none (λ t. one_if (may_sleep f t)) THREADS (λ t few. refl) in
+      let rouses = total-none (λ k. one_if (may_rouse f (f.processors k))) cpus (λ k few. refl) in omega (arith, sleeps, rouses)

@@ -4,7 +4,6 @@ use Rattle.std.specs.Prelude.{◌==◌, ◌&&◌, not, nat_lt}
 use Rattle.std.proofs.lemmas.Bool.{and_parts, eqb-true, false≢true, ltb-true}
 use Rattle.um_base.specs.declared.act.Act.{Act}
 use Rattle.um_base.specs.declared.act.Leftover.{Leftover}
-use Rattle.um_base.specs.declared.act.SetSaid.{SetSaid}
 use Rattle.um_base.specs.declared.image.Image.{Image}
 use Rattle.um_base.specs.declared.names.Addr.{Addr}
 use Rattle.um_base.specs.declared.names.Errno.{Errno}
@@ -15,8 +14,8 @@ use Rattle.um_words.specs.declared.fine.More.{More}
 use Rattle.um_words.specs.declared.fine.Unseen.{Unseen}
 use Rattle.um_words.specs.declared.row_word.RowWord.{RowWord}
 use Rattle.um_words.specs.declared.row_word.Stage.{Stage}
-use Rattle.um_words.specs.Extra.{has_kind_in, mode_in, strict_in}
-use Rattle.um_words.specs.Rows.{after_set, after_verdict, claimed, counted_row, given_to, gone_stage, has, is_cleaning, is_dying, is_free, is_last, is_live, permitted, published, row_after, row_says, row_says_act, row_takes, row_takes_act, row_takes_unseen, set_of, verdict_of}
+use Rattle.um_words.specs.Extra.{has_kind_in, mode_in}
+use Rattle.um_words.specs.Rows.{after_verdict, claimed, counted_row, given_to, gone_stage, has, is_cleaning, is_dying, is_free, is_last, is_live, permitted, row_after, row_says, row_says_act, row_takes, row_takes_act, row_takes_unseen, verdict_of}
 use Rattle.um_fine.specs.Steps.{Exchange, Site, Word}
 use Rattle.um_fine.specs.Asks.{begins_cleaning}
 use Rattle.um_fine_measure.specs.Measure.{cleaning_cost, row_cost, stage_cost}

@@ -1,5 +1,5 @@
 -- Whole fine runs: steps that were made, and what is left, are no more than the weight of the image, where each step lowers what its
--- processor and its site have left.
+-- processor and its site, and all together, have left.
 use Rattle.std.proofs.Common.{◌≡◌, ◌⊎◌, inl, inr, ⊎_elim, ◌<◌, ◌≤◌, ℕ, zero, suc, ◌+◌, Bool, true, false, List, [], ◌∷◌, ◌++◌, length, length-append, refl, sym, ap, ◌∙◌, subst, arith, eq-eqb}
 use Rattle.std.specs.Prelude.{◌==◌}
 use Rattle.std.proofs.lemmas.Bool.{eqb-false, eqb-true, false≢true}
@@ -16,8 +16,11 @@ use Rattle.um_fine.specs.Steps.{FineStep, Site}
 use Rattle.um_fine.proofs.Balance.{AllDifferent, In, total, total_changed}
 use Rattle.um_fine.proofs.FineRuns.{by_last, runs_pop, state_push}
 use Rattle.um_fine.proofs.Keys.{same-itself, same-sound}
+use Rattle.um_refinement.specs.After.{left_by}
+use Rattle.um_refinement.proofs.Erased.{later}
 use Rattle.um_fine_measure.specs.Measure.{processor_cost, site_cost}
-use Rattle.um_fine_measure.proofs.OpeningLemmas.{others-nothing, scheduler-start}
+use Rattle.um_fine_measure.specs.Whole.{whole_cost}
+use Rattle.um_fine_measure.proofs.OpeningLemmas.{others-nothing, scheduler-start, whole-start}
 
 -- Names of processors.
 
@@ -66,19 +69,30 @@ module _ (image : Image) where
   abbrev pub sites : List FineStep → Site → SiteState
   sites h = state_at same_site site_of (s_next image) (s_start image) h
 
-  -- one more step lowers what its processor and its site have left
-  abbrev pub StepFalls : List FineStep → FineStep → Type 0
-  StepFalls h e =
-      let p = processors h e.cpu in
-      let s = sites h e.site in
-      processor_cost image (p_next image p e) + site_cost image (s_next image s e) + 1 ≤ processor_cost image p + site_cost image s
+  -- one more step changes one of each
+  pub processors-now : (cpus : ℕ) (h : List FineStep) (e : FineStep) (k : ℕ) → processors (h ++ e ∷ []) k ≡ changed same_cpu cpu_of (p_next image) (processors h) e k
+  processors-now cpus h e k = state_push same_cpu cpu-itself cpu-sound cpu_of (ByOneOf image cpus) (p_next image) p_start h e k
+
+  pub sites-now : (h : List FineStep) (e : FineStep) (i : Site) → sites (h ++ e ∷ []) i ≡ changed same_site site_of (s_next image) (sites h) e i
+  sites-now h e i = state_push same_site same-itself same-sound site_of (SiteMay image) (s_next image) (s_start image) h e i
 
 module _ (image : Image) (cpus : ℕ) where
+  pub left-now : (h : List FineStep) (e : FineStep) → left_by image cpus (h ++ e ∷ []) ≡ later (left_by image cpus h) e
+  left-now h e = λ i. record { image = image; cpus = cpus; processors = λ k. processors-now image cpus h e k i; sites = λ j. sites-now image h e j i }
+
+  -- one more step lowers what its processor and its site, and all together, have left
+  abbrev pub StepFalls : List FineStep → FineStep → Type 0
+  StepFalls h e =
+      let p = processors image h e.cpu in
+      let s = sites image h e.site in
+      processor_cost image (p_next image p e) + site_cost image (s_next image s e) + whole_cost (left_by image cpus (h ++ e ∷ [])) + 1
+      ≤ processor_cost image p + site_cost image s + whole_cost (left_by image cpus h)
+
   -- steps, and what is left at any sites, are no more than the weight
   abbrev pub Bounded : List FineStep → Type 0
   Bounded h =
       (is : List Site) → AllDifferent is
-      → total (processor_cost image) (processors image h) (below cpus) + total (site_cost image) (sites image h) is + length h ≤ weight image
+      → total (processor_cost image) (processors image h) (below cpus) + total (site_cost image) (sites image h) is + whole_cost (left_by image cpus h) + length h ≤ weight image
 
   idle-cost : (n : ℕ) → total (processor_cost image) p_start (below n) ≡ 0
   idle-cost zero = refl
@@ -108,29 +122,24 @@ module _ (image : Image) (cpus : ℕ) where
     starts : Bounded []
     starts is apart =
         let none = idle-cost cpus in
-        let start = all-start is apart in omega (arith, none, start)
+        let whole = whole-start image cpus in
+        let start = all-start is apart in omega (arith, none, whole, start)
 
   module _ (h : List FineStep) (e : FineStep) (named : e.cpu < cpus) (run : IsFineRun image cpus (h ++ e ∷ [])) where
-    processors-now : (k : ℕ) → processors image (h ++ e ∷ []) k ≡ changed same_cpu cpu_of (p_next image) (processors image h) e k
-    processors-now k = state_push same_cpu cpu-itself cpu-sound cpu_of (ByOneOf image cpus) (p_next image) p_start h e k
-
-    sites-now : (i : Site) → sites image (h ++ e ∷ []) i ≡ changed same_site site_of (s_next image) (sites image h) e i
-    sites-now i = state_push same_site same-itself same-sound site_of (SiteMay image) (s_next image) (s_start image) h e i
-
     -- where the site of the step is counted
-    falls-in : StepFalls image h e → Bounded h → (is : List Site) → AllDifferent is → In e.site is
-        → total (processor_cost image) (processors image (h ++ e ∷ [])) (below cpus) + total (site_cost image) (sites image (h ++ e ∷ [])) is + length (h ++ e ∷ []) ≤ weight image
+    falls-in : StepFalls h e → Bounded h → (is : List Site) → AllDifferent is → In e.site is
+        → total (processor_cost image) (processors image (h ++ e ∷ [])) (below cpus) + total (site_cost image) (sites image (h ++ e ∷ [])) is + whole_cost (left_by image cpus (h ++ e ∷ [])) + length (h ++ e ∷ []) ≤ weight image
     falls-in falls before is apart there =
         let was = before is apart in
         let ps : total (processor_cost image) (processors image (h ++ e ∷ [])) (below cpus) ≡ total (processor_cost image) (changed same_cpu cpu_of (p_next image) (processors image h) e) (below cpus)
-        = ap (λ (z : ℕ → Processor). total (processor_cost image) z (below cpus)) (λ j k. processors-now k j) in
+        = ap (λ (z : ℕ → Processor). total (processor_cost image) z (below cpus)) (λ j k. processors-now image cpus h e k j) in
         let ss : total (site_cost image) (sites image (h ++ e ∷ [])) is ≡ total (site_cost image) (changed same_site site_of (s_next image) (sites image h) e) is
-        = ap (λ (z : Site → SiteState). total (site_cost image) z is) (λ j k. sites-now k j) in
+        = ap (λ (z : Site → SiteState). total (site_cost image) z is) (λ j k. sites-now image h e k j) in
         let x = total_changed same_cpu cpu-itself cpu-sound cpu_of (p_next image) (processor_cost image) (processors image h) e (below cpus) (different cpus) (below-in cpus e.cpu named) in
         let y = total_changed same_site same-itself same-sound site_of (s_next image) (site_cost image) (sites image h) e is apart there in
         let long = length-append h (e ∷ []) in omega (arith, was, ps, ss, x, y, falls, long)
 
-    falls-all : StepFalls image h e → Bounded h → Bounded (h ++ e ∷ [])
+    falls-all : StepFalls h e → Bounded h → Bounded (h ++ e ∷ [])
     falls-all falls before is apart =
         ⊎_elim (λ there. falls-in falls before is apart there)
         (λ off. let more = falls-in falls before (e.site ∷ is) (off, apart) (inl refl) in omega (arith, more))
@@ -140,7 +149,7 @@ module _ (image : Image) (cpus : ℕ) where
   abbrev pub StepsFall : Type 0
   StepsFall =
       (h : List FineStep) (e : FineStep) → IsFineRun image cpus h → Bounded h
-      → ByOneOf image cpus (processors image h e.cpu) e → SiteMay image (sites image h e.site) e → StepFalls image h e
+      → ByOneOf image cpus (processors image h e.cpu) e → SiteMay image (sites image h e.site) e → StepFalls h e
 
   pub run-bounded : IsLawful image → StepsFall → (h : List FineStep) → IsFineRun image cpus h → Bounded h
   run-bounded lawful falls =

@@ -20,11 +20,11 @@ use Rattle.um_fine_measure.proofs.Between.{joins}
 
 -- Counts of waiters.
 
-abbrev count : (Waiter → Bool) → List Waiter → ℕ
+abbrev pub count : (Waiter → Bool) → List Waiter → ℕ
 count p ws = total (λ w. one_if (p w)) ws
 
 -- those that pass a test, and those that don't
-parts : (p : Waiter → Bool) (ws : List Waiter) → length (filter (λ w. not (p w)) ws) + count p ws ≡ length ws
+pub parts : (p : Waiter → Bool) (ws : List Waiter) → length (filter (λ w. not (p w)) ws) + count p ws ≡ length ws
 parts p [] = refl
 parts p (w ∷ ws) = by (p w) (parts p ws)
   where
@@ -33,7 +33,7 @@ parts p (w ∷ ws) = by (p w) (parts p ws)
     by true rest = omega (arith, rest)
     by false rest = omega (arith, rest)
 
-passing : (p : Waiter → Bool) (ws : List Waiter) → length (filter p ws) ≡ count p ws
+pub passing : (p : Waiter → Bool) (ws : List Waiter) → length (filter p ws) ≡ count p ws
 passing p [] = refl
 passing p (w ∷ ws) = by (p w) (passing p ws)
   where
@@ -50,11 +50,11 @@ inserted p w (v ∷ ws) = by (int_lt v.priority w.priority) (inserted p w ws)
     by true rest = omega (arith, rest)
     by false rest = refl
 
-ordered : (p : Waiter → Bool) (ws : List Waiter) → count p (in_order ws) ≡ count p ws
+pub ordered : (p : Waiter → Bool) (ws : List Waiter) → count p (in_order ws) ≡ count p ws
 ordered p [] = refl
 ordered p (w ∷ ws) = let here = inserted p w (in_order ws) in let rest = ordered p ws in omega (arith, here, rest)
 
-filtered : (p q : Waiter → Bool) (ws : List Waiter) → count p (filter q ws) ≤ count p ws
+pub filtered : (p q : Waiter → Bool) (ws : List Waiter) → count p (filter q ws) ≤ count p ws
 filtered p q [] = omega arith
 filtered p q (w ∷ ws) = by (q w) (filtered p q ws)
   where
@@ -62,11 +62,11 @@ filtered p q (w ∷ ws) = by (q w) (filtered p q ws)
     by true rest = omega (arith, rest)
     by false rest = omega (arith, rest)
 
-every : (ws : List Waiter) → count (λ w. true) ws ≡ length ws
+pub every : (ws : List Waiter) → count (λ w. true) ws ≡ length ws
 every [] = refl
 every (w ∷ ws) = let rest = every ws in omega (arith, rest)
 
-told-all : (e : Errno) (ws : List Waiter) → length (all_told e ws) ≡ length ws
+pub told-all : (e : Errno) (ws : List Waiter) → length (all_told e ws) ≡ length ws
 told-all e ws =
     let same = ordered (λ w. true) ws in
     let before = every ws in
@@ -74,7 +74,7 @@ told-all e ws =
     let long = length-map (in_order ws) (λ (w : Waiter). told w (Reply.Fail e) []) in omega (arith, same, before, after, long)
 
 -- one that is served first of some of them
-one-less : (ws vs rest : List Waiter) (first : Waiter) → in_order vs ≡ first ∷ rest → ((p : Waiter → Bool) → count p vs ≤ count p ws)
+pub one-less : (ws vs rest : List Waiter) (first : Waiter) → in_order vs ≡ first ∷ rest → ((p : Waiter → Bool) → count p vs ≤ count p ws)
     → length (without first.thread.0 ws) + 1 ≤ length ws
 one-less ws vs rest first e few =
     let p = λ (w : Waiter). w.thread.0 == first.thread.0 in
@@ -85,7 +85,7 @@ one-less ws vs rest first e few =
 
 -- Who is served of those in order, each of whom waits no more.
 
-abbrev is_among : List (ThreadIx × Told) → Waiter → Bool
+abbrev pub is_among : List (ThreadIx × Told) → Waiter → Bool
 is_among woken w = list_any (λ (p : ThreadIx × Told). p.0.0 == w.thread.0) woken
 
 more-among : (woken : List (ThreadIx × Told)) (p : ThreadIx × Told) (ws : List Waiter) → count (is_among woken) ws ≤ count (is_among (p ∷ woken)) ws
@@ -99,7 +99,7 @@ more-among woken p (w ∷ ws) = by (p.0.0 == w.thread.0) (is_among woken w) (mor
     by false c rest = omega (arith, rest)
 
 -- as many of those in order as are told something
-served-front : (order : List Waiter) (woken : List (ThreadIx × Told)) → IsFront order woken → length woken ≤ count (is_among woken) order
+pub served-front : (order : List Waiter) (woken : List (ThreadIx × Told)) → IsFront order woken → length woken ≤ count (is_among woken) order
 served-front order _ nobody = omega arith
 served-front _ _ (one_more w told {order = order} {woken = woken} front) =
     let itself : one_if (w.thread.0 == w.thread.0 || is_among woken w) ≡ 1 = rw (eq-eqb w.thread.0 w.thread.0 refl) refl in
@@ -107,7 +107,7 @@ served-front _ _ (one_more w told {order = order} {woken = woken} front) =
     let rest = served-front order woken front in omega (arith, itself, more, rest)
 
 -- those whom an act serves are no more than those who wait
-few-served : (which : Served) (ws : List Waiter) (p : Waiter → Bool) → count p (served which ws) ≤ count p ws
+pub few-served : (which : Served) (ws : List Waiter) (p : Waiter → Bool) → count p (served which ws) ≤ count p ws
 few-served Served.All ws p = omega arith
 few-served Served.Getters ws p = filtered p is_getter ws
 few-served Served.Putters ws p = filtered p is_putter ws

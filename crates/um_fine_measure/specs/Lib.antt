@@ -1,3 +1,4 @@
 pub mod Measure
 pub mod Ready
+pub mod Whole
 pub mod Falls

@@ -1,5 +1,5 @@
 -- The history of a board at any moment: the contents of a cell follow from its steps even while its turn is out.
-use Rattle.std.proofs.Common.{◌≡◌, ℕ, ◌+◌, ◌-◌, ◌%◌, ◌<◌, ◌≤◌, List, [], ◌∷◌, ◌⊎◌, inl, inr, Option, refl, sym, ap, subst, arith, get_or}
+use Rattle.std.proofs.Common.{◌≡◌, ℕ, zero, suc, ◌+◌, ◌-◌, ◌%◌, ◌<◌, ◌≤◌, List, [], ◌∷◌, ◌⊎◌, inl, inr, Option, refl, sym, ap, subst, arith, get_or}
 use mathlib.Core.Logic.{dite}
 use native.Mathlib.Decide.{dec_lt, ℕ_discrete}
 use Rattle.um_base.specs.declared.image.Image.{Image}
@@ -8,24 +8,29 @@ use Rattle.um_words.specs.declared.made.Made.{Made}
 use Rattle.um_site.specs.Cells.{AmongCells, ContentsAre}
 use Rattle.um_site.specs.declared.view.View.{View}
 use Rattle.um_board.specs.Contents.{Follows, Known, Opens}
-use Rattle.um_board.specs.NextSteps.{AreLocalRuns, NextGoes}
+use Rattle.um_board.specs.NextSteps.{AreLocalRuns, NextGoes, seat_name}
 use Rattle.um_board.proofs.NextRuns.{local-runs}
 use Rattle.um_history.specs.Played.{IsHistoryOf, IsMoment}
 
-abbrev first-in : List ℕ → ℕ
-first-in [] = 0
-first-in (k ∷ rest) = k
+-- a seat that the first one split off is that of the processor behind its number
+split-off : (k j : ℕ) → k ∷ [] ≡ seat_name j → suc k ≡ j
+split-off k zero is = absurd (cc)
+split-off k (suc j) is = let same : k ≡ j = cc in ap suc same
+
+longer : (k j : ℕ) (n : List ℕ) (i : ℕ) → k ∷ j ∷ n ≡ seat_name i → ⊥
+longer k j n zero is = cc
+longer k j n (suc i) is = cc
 
 slot-of : (i : ℕ) → 168 ≤ i → 168 + (i - 168) ≡ i
 slot-of i cell = omega arith
 
 -- each list is of one of the first eight seats, or has nothing in it
-owned-by : (image : Image) (h : List Entry) → AreLocalRuns image h → (n : List ℕ) → (by_seat n h ≡ []) ⊎ ((k : ℕ) × (k < 8) × (n ≡ k ∷ []))
-owned-by image h runs [] = inl (runs.others [] (λ k less is. absurd (cc)))
-owned-by image h runs (k ∷ []) = dite (dec_lt k 8)
-    (λ less. inr (k, less, refl))
-    (λ far. inl (runs.others (k ∷ []) (λ j less is. far (subst (λ (m : ℕ). m < 8) (sym (ap first-in is)) less))))
-owned-by image h runs (k ∷ j ∷ n) = inl (runs.others (k ∷ j ∷ n) (λ i less is. absurd (cc)))
+owned-by : (image : Image) (h : List Entry) → AreLocalRuns image h → (n : List ℕ) → (by_seat n h ≡ []) ⊎ ((k : ℕ) × (k < 8) × (n ≡ seat_name k))
+owned-by image h runs [] = inr (0, omega arith, refl)
+owned-by image h runs (k ∷ []) = dite (dec_lt (suc k) 8)
+    (λ less. inr (suc k, less, refl))
+    (λ far. inl (runs.others (k ∷ []) (λ j less is. far (subst (λ (m : ℕ). m < 8) (sym (split-off k j is)) less))))
+owned-by image h runs (k ∷ j ∷ n) = inl (runs.others (k ∷ j ∷ n) (λ i less is. longer k j n i is))
 
 module _ (image : Image) (v : View) (i w : ℕ) (m : IsMoment image v i w) where
   abbrev pub history : List Entry
@@ -34,7 +39,7 @@ module _ (image : Image) (v : View) (i w : ℕ) (m : IsMoment image v i w) where
   abbrev words : List ℕ
   words = m.moment.words
 
-  contents-at : (j : ℕ) → 168 ≤ j → j < 307 → (y : Option Known) × ContentsAre Opens Follows v.image j (by_site j history) y
+  contents-at : (j : ℕ) → 168 ≤ j → j < 309 → (y : Option Known) × ContentsAre Opens Follows v.image j (by_site j history) y
   contents-at j far near =
       let c = m.moment.cells in
       let a = m.filled j far near in

@@ -39,26 +39,29 @@ second-below : (b : Bool) (n m : ℕ) → IsTrue (b && nat_lt n m) → n < m
 second-below b n m h = grind (arith, nat_tests)
 
 abbrev Counts : CellWord → Type 0
-Counts w = (w.ready < 256) × (w.running < 256)
+Counts w = (w.ready < 256) × (w.running < 256) × (w.owed < 524288)
 
 module _ (w : CellWord) (counts : Counts w) where
   first-counts : IsTrue (has_ready w) → Counts (first_taken w)
-  first-counts h = let l = second-below (nat_lt 0 w.ready) w.running 255 h in (omega arith, omega arith)
+  first-counts h = let l = second-below (nat_lt 0 w.ready) w.running 255 h in (omega arith, omega arith, counts.2)
 
   ready-counts : (b : Bool) → w.ready < 32 → Counts (with_ready w b)
-  ready-counts true h = (omega arith, counts.1)
+  ready-counts true h = (omega arith, counts.1, counts.2)
   ready-counts false h = counts
 
   less-counts : (b : Bool) → w.ready < 32 → Counts (one_less (with_ready w b))
-  less-counts true h = (omega arith, omega arith)
-  less-counts false h = (counts.0, omega arith)
+  less-counts true h = (omega arith, omega arith, counts.2)
+  less-counts false h = (counts.0, omega arith, counts.2)
 
   unseen-counts : (unseen : Unseen) → IsTrue (scheduler_takes_unseen w unseen) → Counts (scheduler_after_unseen w unseen)
   unseen-counts (Unseen.Next who) h = first-counts h
   unseen-counts (Unseen.Wake who b) h = ready-counts b (grind (arith, nat_tests))
   unseen-counts (Unseen.Park who b) h = less-counts b (second-below (nat_lt 0 w.running) w.ready 32 h)
   unseen-counts (Unseen.Add who) h = ready-counts true (grind (arith, nat_tests))
-  unseen-counts Unseen.Done h = (counts.0, omega arith)
+  unseen-counts (Unseen.Cut who b) h = ready-counts b (grind (arith, nat_tests))
+  unseen-counts Unseen.Owe h = (counts.0, counts.1, grind (arith, nat_tests))
+  unseen-counts Unseen.Paid h = (counts.0, counts.1, omega arith)
+  unseen-counts Unseen.Done h = (counts.0, omega arith, counts.2)
   unseen-counts unseen h = absurd (cc)
 
   scheduler-counts : (act : FineAct) → IsTrue (scheduler_takes w act) → Counts (scheduler_after w act)
@@ -71,13 +74,15 @@ module _ (w : CellWord) (counts : Counts w) where
   word-counts CellKind.Domain act h = counts
   word-counts CellKind.Memory act h = counts
   word-counts CellKind.Heap act h = counts
+  word-counts CellKind.Clock act h = counts
+  word-counts CellKind.Join act h = counts
   word-counts CellKind.Unused act h = counts
 
 -- The scheduler's word counts what its contents have.
 
 module _ (s : Scheduler) (n : ℕ) where
   abbrev word : CellWord
-  word = quiet_word (length s.ready) s.running n
+  word = quiet_word (length s.ready) s.running s.owed n
 
   first-word : (ready : List ℕ) → s.ready ≡ ready → IsTrue (Sched.has_ready s ready)
       → counted_cell (first_taken word) ≡ cell_word (Cell.scheduler (Sched.first_taken s ready)) (n + 1)
@@ -85,14 +90,14 @@ module _ (s : Scheduler) (n : ℕ) where
   first-word (t ∷ ready) e h =
       let long = ap length e in
       let less : length s.ready - 1 ≡ length ready = omega (arith, long) in
-      λ i. quiet_word (less i) (s.running + 1) (n + 1)
+      λ i. quiet_word (less i) (s.running + 1) s.owed (n + 1)
 
   behind-word : (b : Bool) (t : ℕ) → (with_ready word b).ready ≡ length (behind b t s.ready)
   behind-word true t = let long = length-append s.ready (t ∷ []) in omega (arith, long)
   behind-word false t = refl
 
-  ready-word : (b : Bool) (t running : ℕ) → counted_cell (record (with_ready word b) { running = running }) ≡ quiet_word (length (behind b t s.ready)) running (n + 1)
-  ready-word true t running = λ i. quiet_word (behind-word true t i) running (n + 1)
+  ready-word : (b : Bool) (t running : ℕ) → counted_cell (record (with_ready word b) { running = running }) ≡ quiet_word (length (behind b t s.ready)) running s.owed (n + 1)
+  ready-word true t running = λ i. quiet_word (behind-word true t i) running s.owed (n + 1)
   ready-word false t running = refl
 
   running-same : (b : Bool) → (with_ready word b).running ≡ s.running
@@ -106,6 +111,10 @@ module _ (s : Scheduler) (n : ℕ) where
   unseen-word (Unseen.Park who true) moved h = ready-word true (context_in moved).thread (s.running - 1)
   unseen-word (Unseen.Park who false) moved h = refl
   unseen-word (Unseen.Add who) moved h = ready-word true (context_in moved).thread s.running
+  unseen-word (Unseen.Cut who true) moved h = ready-word true who.0 s.running
+  unseen-word (Unseen.Cut who false) moved h = refl
+  unseen-word Unseen.Owe moved h = refl
+  unseen-word Unseen.Paid moved h = refl
   unseen-word Unseen.Done moved h = refl
   unseen-word unseen moved h = absurd (cc)
 
@@ -142,6 +151,8 @@ module _ (image : Image) where
   next-word Site.memory n (Cell.memory m) act moved sort takes = refl
   next-word Site.heap n (Cell.heap h) act moved sort takes = refl
   next-word Site.scheduler n (Cell.scheduler s) act moved sort takes = scheduler-word s n act moved takes
+  next-word Site.clock n (Cell.clock c) act moved sort takes = refl
+  next-word Site.joins n (Cell.joins j) act moved sort takes = refl
   next-word i n c act moved sort takes = absurd (cc)
 
   next-sort : (i : Site) (n m : ℕ) (c : Cell) (act : FineAct) (moved : Exchange) → IsTrue (is_sort i (SiteState.cell n c)) → IsTrue (is_sort i (SiteState.cell m (cell_after image c act moved)))
@@ -150,6 +161,8 @@ module _ (image : Image) where
   next-sort Site.memory n m (Cell.memory b) act moved sort = refl
   next-sort Site.heap n m (Cell.heap h) act moved sort = refl
   next-sort Site.scheduler n m (Cell.scheduler s) act moved sort = refl
+  next-sort Site.clock n m (Cell.clock c) act moved sort = refl
+  next-sort Site.joins n m (Cell.joins j) act moved sort = refl
   next-sort i n m c act moved sort = absurd (cc)
 
 pub word-number : (c : Cell) (n : ℕ) → (cell_word c n).number ≡ n
@@ -158,24 +171,19 @@ word-number (Cell.parts p) n = refl
 word-number (Cell.memory m) n = refl
 word-number (Cell.heap h) n = refl
 word-number (Cell.scheduler s) n = refl
-
-word-owed : (c : Cell) (n : ℕ) → (cell_word c n).owed ≡ 0
-word-owed (Cell.object o) n = refl
-word-owed (Cell.parts p) n = refl
-word-owed (Cell.memory m) n = refl
-word-owed (Cell.heap h) n = refl
-word-owed (Cell.scheduler s) n = refl
+word-number (Cell.clock c) n = refl
+word-number (Cell.joins j) n = refl
 
 -- a cell of the site's sort, whose counts its word has room for
 pub record CellFits (i : Site) (n : ℕ) (c : Cell) : Type 0 where
   pub sort : IsTrue (is_sort i (SiteState.cell n c))
   pub number : n < 268435456
-  pub counts : ((cell_word c n).ready < 256) × ((cell_word c n).running < 256)
+  pub counts : Counts (cell_word c n)
 
 pub cell-reads : (i : Site) (n : ℕ) (c : Cell) → CellFits i n c → cell_of (packed_cell (cell_word c n)) ≡ cell_word c n
 cell-reads i n c fits =
-    let number = word-number c n in let owed = word-owed c n in let small = fits.number in
-    cell-back (cell_word c n) fits.counts.0 fits.counts.1 (record { owed = omega (arith, owed); number = omega (arith, number, small) })
+    let number = word-number c n in let small = fits.number in
+    cell-back (cell_word c n) fits.counts.0 fits.counts.1 (record { owed = fits.counts.2; number = omega (arith, number, small) })
 
 -- these are the contents of an image, and by the steps they come to the last ones
 pub record Contents (image : Image) (last : Known) (c : Cell) (ms : List Made) : Type 0 where
@@ -207,7 +215,7 @@ module _ (image : Image) (last : Known) (i : Site) (there : IsTrue (is_site i)) 
       let left : CellFits i (n + 1) next = record {
         sort = next-sort image i n (n + 1) c e.1.act e.1.moved fits.sort;
         number = omega (arith, room);
-        counts = subst (λ (w : CellWord). (w.ready < 256) × (w.running < 256)) now (word-counts (cell_word c n) fits.counts (cell_kind i) e.1.act may.takes);
+        counts = subst Counts now (word-counts (cell_word c n) fits.counts (cell_kind i) e.1.act may.takes);
       } in
       let word : e.1.word ≡ packed_cell (cell_word next (n + 1)) = step.is ∙ ap packed_cell (may.leaves ∙ now) in
       let read : Word.cell (cell_word next (n + 1)) ≡ (fine_of e).word =

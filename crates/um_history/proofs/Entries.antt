@@ -1,7 +1,8 @@
 -- The steps of a board's history as fine steps: each by the processor whose seat has it.
-use Rattle.std.proofs.Common.{◌≡◌, ℕ, List, [], ◌∷◌, refl, map}
+use Rattle.std.proofs.Common.{◌≡◌, ℕ, zero, suc, List, [], ◌∷◌, refl, map}
 use Rattle.um_words.specs.History.{Entry}
 use Rattle.um_fine.specs.Steps.{FineStep}
+use Rattle.um_board.specs.NextSteps.{seat_name}
 use Rattle.um_board.specs.Noted.{made_of}
 use Rattle.um_board.specs.ReadBack.{IsReadBack, fine_at}
 use Rattle.um_board.proofs.NextRuns.{read-back}
@@ -9,7 +10,11 @@ use Rattle.um_history.specs.Played.{Each}
 
 abbrev pub name_cpu : List ℕ → ℕ
 name_cpu [] = 0
-name_cpu (k ∷ rest) = k
+name_cpu (k ∷ rest) = suc k
+
+pub name-back : (k : ℕ) → name_cpu (seat_name k) ≡ k
+name-back zero = refl
+name-back (suc k) = refl
 
 abbrev pub fine_of : Entry → FineStep
 fine_of e = fine_at (name_cpu e.0) e.1

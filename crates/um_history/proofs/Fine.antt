@@ -34,7 +34,7 @@ number-in-word (Site.domain d) w = refl
 number-in-word i w = refl
 
 -- the step number of a word as it is read
-pub read-number : (n : ℕ) → n < 307 → (w : ℕ) → number_of (unpacked (site_numbered n) w) ≡ number n w
+pub read-number : (n : ℕ) → n < 309 → (w : ℕ) → number_of (unpacked (site_numbered n) w) ≡ number n w
 unfolding number
 read-number n near w =
     let i = site_numbered n in
@@ -43,7 +43,7 @@ read-number n near w =
 abbrev noted : Entry → Logged
 noted e = logged_of (fine_of e)
 
-numbered-on : (n m : ℕ) → n < 307 → (l : List Entry) → Each (λ (e : Entry). e.1.site ≡ n) l → Numbers n m (map History.made_of l) → AreNumbered m (map noted l)
+numbered-on : (n m : ℕ) → n < 309 → (l : List Entry) → Each (λ (e : Entry). e.1.site ≡ n) l → Numbers n m (map History.made_of l) → AreNumbered m (map noted l)
 numbered-on n m near [] here numbers = tt
 numbered-on n m near (e ∷ l) here numbers =
     let same : number_of (unpacked (site_numbered e.1.site) e.1.word) ≡ number n e.1.word = ap (λ (j : ℕ). number_of (unpacked (site_numbered j) e.1.word)) here.0 ∙ read-number n near e.1.word in
@@ -55,7 +55,7 @@ module _ (image : Image) (cpus : ℕ) (words : List ℕ) (entries : List Entry) 
   abbrev steps_of_all : List FineStep
   steps_of_all = all image cpus words entries of
 
-  wide : length words ≡ 307
+  wide : length words ≡ 309
   wide = of.stands.wide ∙ of.opens.count
 
   noted-sublist : (n : ℕ) → sublist eqb Merged.site_of n (map logged_of steps_of_all) ≡ map noted (sub (is_at n) entries)
@@ -64,16 +64,16 @@ module _ (image : Image) (cpus : ℕ) (words : List ℕ) (entries : List Entry) 
       ∙ subs-are (λ (s : Logged). eqb s.site n) (map noted entries)
       ∙ sub-map noted (λ (s : Logged). eqb s.site n) entries
       ∙ ap (map noted) (sub-same (λ (e : Entry). eqb (noted e).site n) (is_at n) entries
-      (each-map (λ (e : Entry). e.1.site < 307) (λ (e : Entry). eqb (noted e).site n ≡ is_at n e) (λ e near. ap (λ (j : ℕ). eqb j n) (number-of-numbered e.1.site near)) entries (all-placed image cpus words entries of)))
+      (each-map (λ (e : Entry). e.1.site < 309) (λ (e : Entry). eqb (noted e).site n ≡ is_at n e) (λ e near. ap (λ (j : ℕ). eqb j n) (number-of-numbered e.1.site near)) entries (all-placed image cpus words entries of)))
 
   numbered : (n : ℕ) → AreNumbered 0 (sublist eqb Merged.site_of n (map logged_of steps_of_all))
-  numbered n = subst (AreNumbered 0) (sym (noted-sublist n)) (dite (dec_lt n 307)
+  numbered n = subst (AreNumbered 0) (sym (noted-sublist n)) (dite (dec_lt n 309)
       (λ near. numbered-on n 0 near (sub (is_at n) entries) (sites-tested image cpus words entries of n) (of.stands.numbers n (omega (arith, near, wide))))
       (λ far. subst (λ (l : List Entry). AreNumbered 0 (map noted l)) (sym (none-mapped History.made_of (sub (is_at n) entries) (of.stands.inside n (omega (arith, far, wide))))) tt))
 
   sited : Each (λ (e : FineStep). IsTrue (is_site e.site)) steps_of_all
   sited = each-mapped fine_of (λ (e : FineStep). IsTrue (is_site e.site)) entries
-      (each-map (λ (e : Entry). e.1.site < 307) (λ (e : Entry). IsTrue (is_site (site_numbered e.1.site))) (λ e near. numbered-is e.1.site near) entries (all-placed image cpus words entries of))
+      (each-map (λ (e : Entry). e.1.site < 309) (λ (e : Entry). IsTrue (is_site (site_numbered e.1.site))) (λ e near. numbered-is e.1.site near) entries (all-placed image cpus words entries of))
 
   pub is-fine-of : IsFineOf image cpus words steps steps_of_all
   is-fine-of =

@@ -10,7 +10,7 @@ use Rattle.um_words.specs.History.{Entry, bare, by_site}
 use Rattle.um_words.specs.Inverse.{thread-back}
 use Rattle.um_words.specs.Packed.{cell_of, domain_in, row_of, thread_of}
 use Rattle.um_fine.specs.Cells.{Cell, cell_word}
-use Rattle.um_fine.specs.FineRun.{SameOrder, site_of}
+use Rattle.um_fine.specs.FineRun.{SameOrder}
 use Rattle.um_fine.specs.Opening.{s_start}
 use Rattle.um_fine.specs.Runs.{ends}
 use Rattle.um_fine.specs.Sites.{SiteState, is_site, s_next, site_number, word_of}
@@ -83,7 +83,7 @@ module _ (image : Image) (cpus : ℕ) (v : View) (words : List ℕ) (slots : Lis
   abbrev InSlot : ℕ → Type 0
   InSlot n = (last : Known) × (get_elem? slots (n - 168) ≡ some (Some last)) × ContentsAre Opens Follows image n (by_site n entries) (Some last)
 
-  in-slot : (n : ℕ) → 168 ≤ n → n < 307 → InSlot n
+  in-slot : (n : ℕ) → 168 ≤ n → n < 309 → InSlot n
   in-slot n far near =
       let (y, at, are) = played.closed.contents n (played.filled n far near) in
       let (x, first, is, opens, follow) = subst (λ (i : Image). ContentsAre Opens Follows i n (by_site n entries) y) played.image_is are in
@@ -114,6 +114,8 @@ module _ (image : Image) (cpus : ℕ) (v : View) (words : List ℕ) (slots : Lis
   are-left Site.memory is = cell-left Site.memory 136 is refl (λ last known. known)
   are-left Site.heap is = cell-left Site.heap 137 is refl (λ last known. known)
   are-left Site.scheduler is = cell-left Site.scheduler 138 is refl (λ last known. known)
+  are-left Site.clock is = cell-left Site.clock 139 is refl (λ last known. known)
+  are-left Site.joins is = cell-left Site.joins 140 is refl (λ last known. known)
 
   -- the same after steps in another order that keeps each site's
   pub left-in-order : (h : List FineStep) → SameOrder g h → AreLeft image words slots h

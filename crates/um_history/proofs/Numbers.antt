@@ -21,16 +21,16 @@ pub not-true : (a : Bool) → (a ≡ true → ⊥) → a ≡ false
 not-true true f = absurd (f refl)
 not-true false f = refl
 
--- the sites of numbers below 307
+-- the sites of numbers below 309
 
-pub numbered-is : (n : ℕ) → n < 307 → IsTrue (is_site (site_numbered n))
+pub numbered-is : (n : ℕ) → n < 309 → IsTrue (is_site (site_numbered n))
 numbered-is n h = grind (arith, nat_tests)
 
-pub number-of-numbered : (n : ℕ) → n < 307 → site_number (site_numbered n) ≡ n
+pub number-of-numbered : (n : ℕ) → n < 309 → site_number (site_numbered n) ≡ n
 number-of-numbered n h = grind (arith, nat_tests)
 
 -- sites that exist compare as their numbers do
-pub sites-compare : (i : Site) (n : ℕ) → IsTrue (is_site i) → n < 307 → same_site (site_numbered n) i ≡ eqb n (site_number i)
+pub sites-compare : (i : Site) (n : ℕ) → IsTrue (is_site i) → n < 309 → same_site (site_numbered n) i ≡ eqb n (site_number i)
 sites-compare i n there h =
     tests-same (same_site (site_numbered n) i) (eqb n (site_number i))
     (λ e. eq-eqb n (site_number i) (sym (number-of-numbered n h) ∙ ap site_number (same-sound (site_numbered n) i e)))
@@ -42,7 +42,7 @@ pub names-compare : (j i : Site) → IsTrue (is_site j) → IsTrue (is_site i) �
 names-compare j i here there = ap (λ (k : Site). same_site k i) (sym (number-back j here)) ∙ sites-compare i (site_number j) there (number-bound j here)
 
 -- a site that there isn't has no number's name
-pub no-site : (i : Site) (n : ℕ) → is_site i ≡ false → n < 307 → same_site (site_numbered n) i ≡ false
+pub no-site : (i : Site) (n : ℕ) → is_site i ≡ false → n < 309 → same_site (site_numbered n) i ≡ false
 no-site i n none h = not-true (same_site (site_numbered n) i) (λ e. let there : is_site i ≡ true = subst (λ (j : Site). is_site j ≡ true) (same-sound (site_numbered n) i e) (numbered-is n h) in cc)
 
 pub no-name : (i j : Site) → is_site i ≡ false → IsTrue (is_site j) → same_site j i ≡ false
@@ -60,6 +60,8 @@ kind_of_site (Site.parts d) = WordKind.Cell CellKind.Domain
 kind_of_site Site.memory = WordKind.Cell CellKind.Memory
 kind_of_site Site.heap = WordKind.Cell CellKind.Heap
 kind_of_site Site.scheduler = WordKind.Cell CellKind.Scheduler
+kind_of_site Site.clock = WordKind.Cell CellKind.Clock
+kind_of_site Site.joins = WordKind.Cell CellKind.Join
 
 pub kinds-are : (i : Site) → IsTrue (is_site i) → kind_at (site_number i) ≡ kind_of_site i
 kinds-are (Site.row x) h = grind (arith, nat_tests)
@@ -70,3 +72,5 @@ kinds-are (Site.parts d) h = grind (arith, nat_tests)
 kinds-are Site.memory h = refl
 kinds-are Site.heap h = refl
 kinds-are Site.scheduler h = refl
+kinds-are Site.clock h = refl
+kinds-are Site.joins h = refl

@@ -53,6 +53,8 @@ site-goes image last (Site.parts d) there = cell-goes image last (Site.parts d) 
 site-goes image last Site.memory there = cell-goes image last Site.memory there refl
 site-goes image last Site.heap there = cell-goes image last Site.heap there refl
 site-goes image last Site.scheduler there = cell-goes image last Site.scheduler there refl
+site-goes image last Site.clock there = cell-goes image last Site.clock there refl
+site-goes image last Site.joins there = cell-goes image last Site.joins there refl
 
 module _ (image : Image) (well : OpensWell image) where
   start-contents : (i : Site) (c : Cell) → IsTrue (is_site i) → s_start image i ≡ SiteState.cell 0 c → (ms : List Made) (last : Known) → ContentsAre Opens Follows image (site_number i) ms (Some last) → Contents image last c ms
@@ -62,21 +64,23 @@ module _ (image : Image) (well : OpensWell image) where
       let this : x ≡ last = cc in
       record { old = first; of = opens.of; is = cell; follow = subst (λ (y : Known). Follow Opens Follows first ms y) this follow }
 
-  quiet : (i : Site) (c : Cell) → IsTrue (is_sort i (SiteState.cell 0 c)) → (cell_word c 0).ready ≡ 0 → (cell_word c 0).running ≡ 0 → CellFits i 0 c
-  quiet i c sort ready running = record { sort = sort; number = omega arith; counts = (omega (arith, ready), omega (arith, running)) }
+  quiet : (i : Site) (c : Cell) → IsTrue (is_sort i (SiteState.cell 0 c)) → (cell_word c 0).ready ≡ 0 → (cell_word c 0).running ≡ 0 → (cell_word c 0).owed ≡ 0 → CellFits i 0 c
+  quiet i c sort ready running owed = record { sort = sort; number = omega arith; counts = (omega (arith, ready), omega (arith, running), omega (arith, owed)) }
 
   scheduler-fits : CellFits Site.scheduler 0 (scheduler_cell (opening image))
-  scheduler-fits = record { sort = refl; number = omega arith; counts = (well.ready, omega arith) }
+  scheduler-fits = record { sort = refl; number = omega arith; counts = (well.ready, omega arith, omega arith) }
 
   start-known : (i : Site) → IsTrue (is_site i) → (ms : List Made) (last : Known) → Lasts image last i ms → SiteKnown image last i (s_start image i) ms
   start-known (Site.row x) there ms last lasts = record { long = well.flags x (ltb-true x 128 there); fits = record { claims = well.claims x; number = omega arith } }
-  start-known (Site.thread t) there ms last lasts = record { domain = well.domains t; number = omega arith }
+  start-known (Site.thread t) there ms last lasts = record { domain = well.domains t; note = tt; number = omega arith }
   start-known (Site.domain d) there ms last lasts = record { readers = omega arith; version = omega arith; number = omega arith }
-  start-known (Site.object x) there ms last lasts = (quiet (Site.object x) _ refl refl refl, start-contents (Site.object x) _ there refl ms last (lasts refl))
-  start-known (Site.parts d) there ms last lasts = (quiet (Site.parts d) _ refl refl refl, start-contents (Site.parts d) _ there refl ms last (lasts refl))
-  start-known Site.memory there ms last lasts = (quiet Site.memory _ refl refl refl, start-contents Site.memory _ there refl ms last (lasts refl))
-  start-known Site.heap there ms last lasts = (quiet Site.heap _ refl refl refl, start-contents Site.heap _ there refl ms last (lasts refl))
+  start-known (Site.object x) there ms last lasts = (quiet (Site.object x) _ refl refl refl refl, start-contents (Site.object x) _ there refl ms last (lasts refl))
+  start-known (Site.parts d) there ms last lasts = (quiet (Site.parts d) _ refl refl refl refl, start-contents (Site.parts d) _ there refl ms last (lasts refl))
+  start-known Site.memory there ms last lasts = (quiet Site.memory _ refl refl refl refl, start-contents Site.memory _ there refl ms last (lasts refl))
+  start-known Site.heap there ms last lasts = (quiet Site.heap _ refl refl refl refl, start-contents Site.heap _ there refl ms last (lasts refl))
   start-known Site.scheduler there ms last lasts = (scheduler-fits, start-contents Site.scheduler (scheduler_cell (opening image)) there refl ms last (lasts refl))
+  start-known Site.clock there ms last lasts = (quiet Site.clock _ refl refl refl refl, start-contents Site.clock _ there refl ms last (lasts refl))
+  start-known Site.joins there ms last lasts = (quiet Site.joins _ refl refl refl refl, start-contents Site.joins _ there refl ms last (lasts refl))
 
   module _ (i : Site) (there : IsTrue (is_site i)) (l : List Entry) (z : ℕ) (last : Known) (here : Each (λ (e : Entry). e.1.site ≡ site_number i) l)
       (words : Words (site_number i) (packed (word_of (s_start image i))) (map History.made_of l) z) (lasts : Lasts image last i (map History.made_of l)) where

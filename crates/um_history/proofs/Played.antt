@@ -1,5 +1,5 @@
 -- The history of a closed board whose processors have played, as one of a moment, with the steps of each.
-use Rattle.std.proofs.Common.{◌≡◌, ℕ, ◌<◌, List, [], ◌∷◌, inl, inr, ⊎_elim, map, sym, ap, ◌∙◌, subst}
+use Rattle.std.proofs.Common.{◌≡◌, ℕ, zero, suc, ◌<◌, List, [], ◌∷◌, inl, inr, ⊎_elim, map, sym, ap, ◌∙◌, subst}
 use Rattle.std.specs.Prelude.{Option}
 use Rattle.um_base.specs.declared.image.Image.{Image}
 use Rattle.um_words.specs.History.{Entry, IsHistory, by_seat, by_site}
@@ -13,10 +13,10 @@ use Rattle.um_site.specs.Cells.{ContentsAre}
 use Rattle.um_site.specs.History.{Told}
 use Rattle.um_site.specs.declared.view.View.{View}
 use Rattle.um_board.specs.Contents.{Follows, Known, Opens}
-use Rattle.um_board.specs.NextSteps.{NextGoes}
+use Rattle.um_board.specs.NextSteps.{NextGoes, seat_name}
 use Rattle.um_board.specs.Noted.{made_of}
 use Rattle.um_board.specs.ReadBack.{fine_at}
-use Rattle.um_history.specs.Played.{IsHistoryOf, IsPlayed, StandsUnder}
+use Rattle.um_history.specs.Played.{HasList, IsHistoryOf, IsPlayed, StandsUnder}
 use Rattle.um_history.proofs.Entries.{listed}
 use Rattle.um_history.proofs.Granted.{own-steps-of}
 use Rattle.um_history.proofs.Lists.{each-both}
@@ -32,22 +32,23 @@ module _ (image : Image) (cpus : ℕ) (v : View) (words : List ℕ) (slots : Lis
   abbrev pub history : List Entry
   history = played.closed.history
 
-  first-none : (n : List ℕ) → v.name ≡ n → by_seat n history ≡ []
-  first-none n is = ap (λ (m : List ℕ). by_seat m history) (sym is) ∙ played.closed.knows.mine ∙ played.first
-
   pub of-played : IsHistoryOf image cpus words history
   of-played =
       record {
         opening = v.opening;
         opens = played.opening;
         stands = subst (λ (i : Image). IsHistory (NextGoes i) v.opening words history) played.image_is played.closed.stands;
-        owned = λ n. ⊎_elim inl (λ has. ⊎_elim (λ is. inl (first-none n is)) (λ among. inr (played.names n among)) has) (played.closed.only n);
+        owned = λ n. ⊎_elim inl (λ has. ⊎_elim (λ is. inr (0, played.some, sym is ∙ played.first)) (λ among. inr (played.names n among)) has) (played.closed.only n);
         contents = λ n far near. let (y, at, are) = played.closed.contents n (played.filled n far near) in (y, subst (λ (i : Image). ContentsAre Opens Follows i n (by_site n history) y) played.image_is are);
       }
 
   -- what stands under the name of a processor
-  pub list-of : (k : ℕ) → k < cpus → by_seat (k ∷ []) history ≡ map made_of (steps k)
-  list-of k less = let (made, stands, mine) = played.lists k less in told-under history v.joined (k ∷ []) made played.closed.knows.theirs stands ∙ mine.made_is
+  listed-under : (k : ℕ) (made : List Made) → HasList v k made → by_seat (seat_name k) history ≡ made
+  listed-under zero made has = ap (λ (n : List ℕ). by_seat n history) (sym played.first) ∙ played.closed.knows.mine ∙ has
+  listed-under (suc k) made has = told-under history v.joined (k ∷ []) made played.closed.knows.theirs has
+
+  pub list-of : (k : ℕ) → k < cpus → by_seat (seat_name k) history ≡ map made_of (steps k)
+  list-of k less = let (made, has, mine) = played.lists k less in listed-under k made has ∙ mine.made_is
 
   pub own-steps : (k : ℕ) → k < cpus → sublist same_cpu cpu_of k (all image cpus words history of-played) ≡ steps k
   own-steps k less =

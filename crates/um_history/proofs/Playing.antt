@@ -17,7 +17,7 @@ use Rattle.um_board.specs.Noted.{logged_of, made_of, packed}
 use Rattle.um_board.specs.ReadBack.{IsReadBack}
 use Rattle.um_board.specs.Saw.{WasGot}
 use Rattle.um_board.proofs.Saws.{got-behind}
-use Rattle.um_history.specs.Played.{Each, Played, SCHEDULER, SawNone}
+use Rattle.um_history.specs.Played.{Each, Played, SCHEDULER, SawQuiet}
 use Rattle.um_history.proofs.Lists.{each-map}
 
 -- what a processor's seat has while it plays
@@ -72,14 +72,15 @@ module _ (image : Image) (k : ℕ) (made : List Made) (got : List (ℕ × ℕ)) 
             (λ s was. got-behind looked got (site_number s.site) (packed s.word) was) steps playing.left;
       }
 
-  -- a look at the scheduler's word after the last step that saw no ready thread
-  pub saw-none : (w : ℕ) → (ends (p_next image) idle steps).todo ≡ [] → NoOlder got SCHEDULER w → (cell_of w).ready ≡ 0 → SawNone image ((SCHEDULER, w) ∷ got) steps
-  saw-none w done none ready =
+  -- a look at the scheduler's word after the last step that saw nothing ready, running or owed
+  pub saw-quiet : (w : ℕ) → NoOlder got SCHEDULER w → (cell_of w).ready ≡ 0 → (cell_of w).running ≡ 0 → (cell_of w).owed ≡ 0 → SawQuiet ((SCHEDULER, w) ∷ got) steps
+  saw-quiet w none ready running owed =
       record {
-        done = done;
         word = w;
         seen = inl (refl, refl);
-        none = ready;
+        ready = ready;
+        running = running;
+        owed = owed;
         newest = each-map (λ (s : FineStep). WasGot got (site_number s.site) (packed s.word)) (λ (s : FineStep). site_number s.site ≡ SCHEDULER → number SCHEDULER (packed s.word) ≤ number SCHEDULER w)
             (λ s was same. no-older got SCHEDULER (site_number s.site) (packed s.word) w none was same) steps playing.left;
       }

@@ -1,5 +1,5 @@
 -- The fine run at the moment of a look, and the state of the site as the word that was read tells it.
-use Rattle.std.proofs.Common.{◌≡◌, ℕ, ◌<◌, ◌≤◌, List, [], ◌∷◌, length, map, Some, sym, ap, ◌∙◌, subst}
+use Rattle.std.proofs.Common.{◌≡◌, ℕ, ◌<◌, ◌≤◌, List, [], length, map, Some, sym, ap, ◌∙◌, subst}
 use Rattle.std.specs.Prelude.{IsTrue, slice_index}
 use Rattle.um_base.specs.Weight.{weight}
 use Rattle.um_base.specs.declared.image.Image.{Image}
@@ -13,6 +13,7 @@ use Rattle.um_site.specs.Cells.{AmongCells, ContentsAre}
 use Rattle.um_site.specs.declared.seat.Seat.{Seat}
 use Rattle.um_site.specs.declared.view.View.{View}
 use Rattle.um_board.specs.Contents.{Follows, Known, Opens}
+use Rattle.um_board.specs.NextSteps.{seat_name}
 use Rattle.um_board.specs.Noted.{packed}
 use Rattle.um_board.specs.Opening.{AreOpening}
 use Rattle.um_board.specs.ReadBack.{fine_at}
@@ -31,8 +32,8 @@ pub record IsSeatOf (image : Image) (k : ℕ) (s : Seat Known) : Type 0 where
   pub few : k < 8
   pub image_is : s.token.me.0.image ≡ image
   pub opens : AreOpening image s.token.me.0.opening
-  pub named : s.token.me.0.name ≡ k ∷ []
-  pub filled : (j : ℕ) → 168 ≤ j → j < 307 → AmongCells s.token.me.0.filled j
+  pub named : s.token.me.0.name ≡ seat_name k
+  pub filled : (j : ℕ) → 168 ≤ j → j < 309 → AmongCells s.token.me.0.filled j
 
 module _ (image : Image) (described : IsDescribed image) (can : CanRun image 8) (longest : (run : List FineStep) → IsFineRun image 8 run → length run ≤ weight image)
     (k : ℕ) (s : Seat Known) (seat : IsSeatOf image k s) (i w : ℕ) (saw : SawAt s i w) where
@@ -48,13 +49,13 @@ module _ (image : Image) (described : IsDescribed image) (can : CanRun image 8) 
         filled = λ j far near. subst (λ (l : List ℕ). AmongCells l j) (sym saw.of.filled) (seat.filled j far near);
       }
 
-  abbrev words : List ℕ
+  abbrev pub words : List ℕ
   words = saw.moment.words
 
-  abbrev entries : List Entry
+  abbrev pub entries : List Entry
   entries = history image v i w moment
 
-  abbrev of : IsHistoryOf image 8 words entries
+  abbrev pub of : IsHistoryOf image 8 words entries
   of = of-moment image v i w moment
 
   well : OpensWell image
@@ -64,9 +65,9 @@ module _ (image : Image) (described : IsDescribed image) (can : CanRun image 8) 
   g = all image 8 words entries of
 
   run : IsFineRun image 8 g
-  run = (is-fine-of image 8 words entries of can.few well (granted image 8 described can) (λ j. map (fine_at j) (by_seat (j ∷ []) entries)) (λ j less. own-steps image 8 words entries of j)).run
+  run = (is-fine-of image 8 words entries of can.few well (granted image 8 described can) (λ j. map (fine_at j) (by_seat (seat_name j) entries)) (λ j less. own-steps image 8 words entries of j)).run
 
-  mine : by_seat (k ∷ []) entries ≡ s.token.me.0.made
+  mine : by_seat (seat_name k) entries ≡ s.token.me.0.made
   mine =
       sym (ap (λ (n : List ℕ). by_seat n entries) (saw.of.name ∙ seat.named))
       ∙ (saw.moment.kept.know saw.moment.seat v saw.moment.there saw.moment.live).mine

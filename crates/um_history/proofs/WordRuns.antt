@@ -1,15 +1,15 @@
 -- The steps of a row, of a thread index and of a domain.
 use Rattle.std.proofs.Common.{◌≡◌, ℕ, ◌+◌, Bool, true, false, List, ◌∷◌, length, Some, None, refl, sym, ap, ◌∙◌, subst, arith}
-use Rattle.std.specs.Prelude.{◌&&◌, not, if◌then◌else◌, IsTrue}
+use Rattle.std.specs.Prelude.{◌&&◌, ◌||◌, not, if◌then◌else◌, IsTrue}
 use Rattle.std.proofs.lemmas.Bool.{and_from, lt-ltb}
 use Rattle.um_base.specs.declared.act.Act.{Act}
+use Rattle.um_base.specs.declared.act.Event.{Event}
 use Rattle.um_base.specs.declared.image.Image.{Image}
 use Rattle.um_base.specs.declared.names.ThreadIx.{ThreadIx}
 use Rattle.um_machine.specs.State.{is_living}
 use Rattle.um_words.specs.declared.dom_word.DomWord.{DomWord}
 use Rattle.um_words.specs.declared.fine.FineAct.{FineAct}
 use Rattle.um_words.specs.declared.fine.More.{More}
-use Rattle.um_words.specs.declared.fine.Unseen.{Unseen}
 use Rattle.um_words.specs.declared.kind.WordKind.{WordKind}
 use Rattle.um_words.specs.declared.made.Made.{Made}
 use Rattle.um_words.specs.declared.row_word.RowWord.{RowWord}
@@ -27,7 +27,7 @@ use Rattle.um_words.specs.Threads.{ThreadMay, counted_thread, thread_after, thre
 use Rattle.um_words.specs.WordFacts.{domain-keeps, thread-keeps}
 use Rattle.um_fine.specs.Sites.{SiteState, is_site, site_number, site_numbered, word_of}
 use Rattle.um_fine.specs.Steps.{Site, Word}
-use Rattle.um_fine.specs.Threads.{thread_answers, turned, unless_doomed}
+use Rattle.um_fine.specs.Threads.{thread_answers, turned, unless_stopped}
 use Rattle.um_fine.proofs.Keys.{number-back}
 use Rattle.um_board.specs.Noted.{packed}
 use Rattle.um_board.specs.ReadBack.{unpacked}
@@ -83,18 +83,20 @@ row-goes image x there (SiteState.cell n c) e ms here known may = absurd known
 
 -- Threads.
 
-not-doomed : (living doomed : Bool) → IsTrue (living && not doomed) → doomed ≡ false
-not-doomed true true h = absurd (cc)
-not-doomed true false h = refl
-not-doomed false doomed h = absurd (cc)
+unless-none : (living doomed aborted suspended : Bool) (event : Event) (more : More) → IsTrue (living && not (doomed || aborted || suspended)) → unless_stopped doomed aborted suspended event more ≡ FineAct.Shown event more
+unless-none true false false false event more h = refl
+unless-none true true aborted suspended event more h = absurd (cc)
+unless-none true false true suspended event more h = absurd (cc)
+unless-none true false false true event more h = absurd (cc)
+unless-none false doomed aborted suspended event more h = absurd (cc)
 
 turned-act : (w : ThreadWord) (t : ThreadIx) (more : More) (act : Act) → IsTrue (thread_takes_act w more act)
     → let a = FineAct.Shown (record { thread = t; act = act }) more in turned w a ≡ a
-turned-act w t more (Act.Begin script line) h = ap (λ b. unless_doomed b (FineAct.Shown (record { thread = t; act = Act.Begin script line }) more)) (not-doomed (is_living w.life) w.doomed h)
-turned-act w t more Act.Exit h = ap (λ b. unless_doomed b (FineAct.Shown (record { thread = t; act = Act.Exit }) more)) (not-doomed (is_living w.life) w.doomed h)
+turned-act w t more (Act.Begin script line) h = unless-none (is_living w.life) w.doomed w.aborted w.suspended (record { thread = t; act = Act.Begin script line }) more h
+turned-act w t more Act.Exit h = unless-none (is_living w.life) w.doomed w.aborted w.suspended (record { thread = t; act = Act.Exit }) more h
 turned-act w t more act h = refl
 
--- a step that the word takes is not one that it finds doomed
+-- a step that the word takes is not one that it finds doomed, aborted or suspended
 turned-same : (w : ThreadWord) (act : FineAct) → IsTrue (thread_takes w act) → turned w act ≡ act
 turned-same w (FineAct.Shown event more) h = turned-act w event.thread more event.act h
 turned-same w (FineAct.Unseen unseen) h = refl
@@ -115,10 +117,10 @@ thread-known image t there w e ms here is step =
     let found : step.found ≡ w = let r = step.reads in let b = thread-back w is in cc in
     let may : ThreadMay w e.1.act step.left = subst (λ (v : ThreadWord). ThreadMay v e.1.act step.left) found step.may in
     let next = counted_thread (thread_after w e.1.act) in
-    let keeps = thread-keeps w is.domain e.1.act may.takes in
+    let keeps = thread-keeps w is.domain is.note e.1.act may.takes in
     let number = keeps.number in
     let room = may.room in
-    let fits : FitsThread next = record { domain = keeps.domain; number = omega (arith, number, room) } in
+    let fits : FitsThread next = record { domain = keeps.domain; note = keeps.note; number = omega (arith, number, room) } in
     let word : e.1.word ≡ packed_thread next = step.is ∙ ap packed_thread may.leaves in
     let says : thread_answers w e.1.act ≡ e.1.act = ap (turned w) may.says ∙ turned-same w e.1.act may.takes in
     let read : Word.thread next ≡ (fine_of e).word = sym (read-at (Site.thread t) there e here ∙ ap (λ (n : ℕ). Word.thread (thread_in n)) word ∙ ap Word.thread (thread-reads next fits)) in

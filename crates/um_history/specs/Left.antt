@@ -38,6 +38,8 @@ board_at words slots (Site.parts d) = SiteState.cell (steps_there words (296 + d
 board_at words slots Site.memory = SiteState.cell (steps_there words 304) (in_slot (get_elem? slots 136))
 board_at words slots Site.heap = SiteState.cell (steps_there words 305) (in_slot (get_elem? slots 137))
 board_at words slots Site.scheduler = SiteState.cell (steps_there words 306) (in_slot (get_elem? slots 138))
+board_at words slots Site.clock = SiteState.cell (steps_there words 307) (in_slot (get_elem? slots 139))
+board_at words slots Site.joins = SiteState.cell (steps_there words 308) (in_slot (get_elem? slots 140))
 
 -- each site is as these steps have left it
 abbrev pub AreLeft : Image → List ℕ → List (Option Known) → List FineStep → Type 0

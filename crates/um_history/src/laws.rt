@@ -1,6 +1,6 @@
 //! The laws over every board on which processors play, and have played.
 
-ghost use Rattle.std.specs.Prelude.{◌≡◌, ℕ, ◌<◌, ◌≤◌, List, [], ◌∷◌, Option, length, map};
+ghost use Rattle.std.specs.Prelude.{◌≡◌, ℕ, ◌<◌, ◌≤◌, List, Option, length, map};
 ghost use Rattle.um_base.specs.{
   Weight.{weight},
   declared.limits.TheConstants.{ROWS},
@@ -16,7 +16,12 @@ ghost use Rattle.um_merge.specs.{
   declared.logged.Logged.{Logged},
 };
 ghost use Rattle.um_site.specs.declared.view.View.{View};
-ghost use Rattle.um_board.specs.{Contents.{Known}, Noted.{logged_of}, ReadBack.{fine_at}};
+ghost use Rattle.um_board.specs.{
+  Contents.{Known},
+  NextSteps.{seat_name},
+  Noted.{logged_of},
+  ReadBack.{fine_at},
+};
 ghost use Rattle.um_refinement.specs.{
   After.{left_by},
   Relation.{Rel},
@@ -28,7 +33,7 @@ ghost use Rattle.um_history.specs.{
   Fine.{IsFineOf},
   LastHolder.{AreHeld, HasLastHolder},
   Left.{AreLeft},
-  Played.{IsMoment, IsPlayed, SawNone},
+  Played.{IsMoment, IsPlayed, SawQuiet},
 };
 
 use um_fine_measure::longest_fine_run;
@@ -56,7 +61,7 @@ pub fn last_holder()
 pub fn every_board()
     ensures { (image : Image) (v : View) (i w : ℕ) → IsDescribed image → CanRun image 8
         → (m : IsMoment image v i w) → (g : List FineStep)
-        × IsFineOf image 8 m.moment.words (λ k. map (fine_at k) (by_seat (k ∷ []) m.moment.history)) g
+        × IsFineOf image 8 m.moment.words (λ k. map (fine_at k) (by_seat (seat_name k) m.moment.history)) g
         × (length g ≤ weight image) × (last : State) × Runs (opening image) (shown g) last
         × Rel (left_by image 8 g) last
         × AreHeld image 8 g last × ((x : ℕ) → x < ROWS → HasLastHolder image 8 g x) }
@@ -72,9 +77,9 @@ pub fn every_board()
 /// - The board's history is one fine run that has the steps of each processor in their order, and no others.
 /// - The logs have an order, of no more steps than the image's weight.
 /// - Take a list of steps that orders each processor's and each site's steps as every order of the logs does. It is what the logs note of a
-///   fine run of these processors' steps, which has left each site as the board has it, and its events are a run of the access-matrix
+///   fine run of these processors' steps, which leaves each site as the board has it, and the run's events are a run of the access-matrix
 ///   machine.
-/// - If each processor saw after its last step that no thread is ready, and has no step to go on with, then none can make another step: each
+/// - If each processor saw after its last step that no thread is ready or runs, and that no mark is owed, then none can make another step: each
 ///   fine run of their steps is over, and the events of such a list are a complete run.
 pub fn every_played_board()
     ensures fine { (image : Image) (cpus : ℕ) (v : View) (words : List ℕ) (slots : List (Option Known))
@@ -91,11 +96,11 @@ pub fn every_played_board()
         × AreRun image (events_of list) × AreLeft image words slots g }
     ensures over { (image : Image) (cpus : ℕ) (v : View) (words : List ℕ) (slots : List (Option Known))
         (logs : List Log) (steps : ℕ → List FineStep) → IsDescribed image → CanRun image cpus
-        → IsPlayed image cpus v words slots logs steps → ((k : ℕ) → k < cpus → SawNone image v.got (steps k))
+        → IsPlayed image cpus v words slots logs steps → ((k : ℕ) → k < cpus → SawQuiet v.got (steps k))
         → (g : List FineStep) → IsFineOf image cpus words steps g → IsOver image cpus g }
     ensures complete { (image : Image) (cpus : ℕ) (v : View) (words : List ℕ) (slots : List (Option Known))
         (logs : List Log) (steps : ℕ → List FineStep) → IsDescribed image → CanRun image cpus
-        → IsPlayed image cpus v words slots logs steps → ((k : ℕ) → k < cpus → SawNone image v.got (steps k))
+        → IsPlayed image cpus v words slots logs steps → ((k : ℕ) → k < cpus → SawQuiet v.got (steps k))
         → (list : List Logged) → ((order : List Logged) → IsOrder logs order → SameOrder list order)
         → AreCompleteRun image (events_of list) }
 {

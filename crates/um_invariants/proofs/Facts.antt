@@ -108,7 +108,7 @@ not_free Status.Free h = cc
 abbrev pub number_kind : ℕ → Kind
 number_kind n =
     if n == 0 then Kind.Thread else if n == 1 then Kind.ThreadStack else if n == 2 then Kind.Sem else if n == 3 then Kind.Mutex else if n == 4 then Kind.Msgq
-    else if n == 5 then Kind.Stack else Kind.Pipe
+    else if n == 5 then Kind.Stack else if n == 6 then Kind.Pipe else Kind.Timer
 
 pub kind_again : (k : Kind) → number_kind (kind_number k) ≡ k
 kind_again Kind.Thread = refl
@@ -118,6 +118,7 @@ kind_again Kind.Mutex = refl
 kind_again Kind.Msgq = refl
 kind_again Kind.Stack = refl
 kind_again Kind.Pipe = refl
+kind_again Kind.Timer = refl
 
 pub same_kind : (k l : Kind) → (kind_number k == kind_number l) ≡ true → k ≡ l
 same_kind k l h = sym (kind_again k) ∙ ap number_kind (is_equal (kind_number k) (kind_number l) h) ∙ kind_again l

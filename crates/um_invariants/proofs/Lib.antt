@@ -21,6 +21,7 @@ pub mod Opening
 pub mod Starts
 pub mod Outcomes
 pub mod ThreadCounts
+pub mod ThreadCells
 pub mod ThreadWaits
 pub mod ThreadServes
 pub mod ThreadWords

@@ -6,7 +6,7 @@ use Rattle.um_base.specs.declared.act.Act.{Act}
 use Rattle.um_base.specs.declared.act.Event.{Event}
 use Rattle.um_machine.specs.declared.pending.Pending.{Pending}
 use Rattle.um_machine.specs.Order.{Steps}
-use Rattle.um_machine.specs.Run.{Offers, goes, skips_inherit, skips_drops, begins, exits, tends, Step, Runs}
+use Rattle.um_machine.specs.Run.{Offers, goes, skips_inherit, skips_drops, begins, exits, stops, leaves, tends, is_tending, Step, Runs}
 use Rattle.um_machine.specs.State.{State, thread_at, is_living}
 use Rattle.um_machine.specs.Table.{act_of}
 use Rattle.um_invariants.proofs.Cores.{Call, Core, core_of, call_at, call_is}
@@ -34,12 +34,22 @@ ready_next : (c : Core) (t : ℕ) (p : Pending) (rest : Steps) → (call_at c t)
 ready_next c t (Pending.Born a) rest e n = (e, (n.shaped, n.no_more, n.keeps))
 ready_next c t (Pending.CleanPair who) rest e n = tt
 ready_next c t Pending.Recycle rest e n = tt
+ready_next c t Pending.Left rest e n = tt
+ready_next c t Pending.Tick rest e n = tt
+ready_next c t (Pending.TimeOut who) rest e n = tt
+ready_next c t Pending.Expire rest e n = tt
+ready_next c t (Pending.Cut who) rest e n = tt
 ready_next c t p rest e n = (n.guarded, (n.shaped, n.no_more, n.keeps))
 
 ready_later : (c : Core) (t : ℕ) (p : Pending) (rest : Steps) → Guarded c.image (call_at c t).checked (p ∷ rest) → IsNext c t p rest → IsReady c t p rest
 ready_later c t (Pending.Born a) rest g n = absurd g
 ready_later c t (Pending.CleanPair who) rest g n = tt
 ready_later c t Pending.Recycle rest g n = tt
+ready_later c t Pending.Left rest g n = tt
+ready_later c t Pending.Tick rest g n = tt
+ready_later c t (Pending.TimeOut who) rest g n = tt
+ready_later c t Pending.Expire rest g n = tt
+ready_later c t (Pending.Cut who) rest g n = tt
 ready_later c t p rest g n = (n.guarded, (n.shaped, n.no_more, n.keeps))
 
 guarded_now : (s : State) (t : ℕ) (steps : Steps) → IsKnown (core_of s) → (thread_at s t).pending ≡ steps → Guarded s.image (call_at (core_of s) t).checked (behind_birth steps)
@@ -65,6 +75,15 @@ ready_behind s t skipped p rest inv e g shaped no_more =
     ready_later (core_of s) t p rest g
     (record { guarded = all_behind s.image (call_at (core_of s) t).checked (p ∷ rest) g; shaped = shaped; no_more = no_more; keeps = keeps_now s t skipped (p ∷ rest) inv e })
 
+ready_tending : (c : Core) (t : ℕ) (p : Pending) (rest : Steps) → is_tending p ≡ true → IsReady c t p rest
+ready_tending c t (Pending.CleanPair who) rest h = tt
+ready_tending c t Pending.Recycle rest h = tt
+ready_tending c t Pending.Tick rest h = tt
+ready_tending c t (Pending.TimeOut who) rest h = tt
+ready_tending c t Pending.Expire rest h = tt
+ready_tending c t (Pending.Cut who) rest h = tt
+ready_tending c t p rest h = cc
+
 ready_offer : (s : State) (t : ℕ) (p : Pending) (rest : Steps) → IsKnown (core_of s) → Offers s t p rest → IsReady (core_of s) t p rest
 ready_offer s t p rest inv (goes e) =
     ready_next (core_of s) t p rest (pending_is s t (p ∷ rest) e)
@@ -75,9 +94,9 @@ ready_offer s t p rest inv (skips_drops {from = from} e due) =
     let steps = Pending.Drops from ∷ p ∷ rest in ready_behind s t (Pending.Drops from) p rest inv e (guarded_now s t steps inv e) (shaped_now s t steps inv e) (claims_now s t steps e)
 ready_offer s t _ _ inv (begins e living well line) = (tt, (tt, (λ w h. cc), lives_now s t inv living))
 ready_offer s t _ _ inv (exits e living well line) = (tt, (tt, (λ w h. cc), lives_now s t inv living))
-ready_offer s t (Pending.CleanPair who) _ inv (tends is started) = tt
-ready_offer s t Pending.Recycle _ inv (tends is started) = tt
-ready_offer s t _ _ inv (tends is started) = cc
+ready_offer s t _ _ inv (stops e living stop) = (tt, (tt, (λ w h. cc), lives_now s t inv living))
+ready_offer s t _ _ inv (leaves ending) = tt
+ready_offer s t p _ inv (tends is started) = ready_tending (core_of s) t p (thread_at s t).pending is
 
 pub step_move : (s s2 : State) (event : Event) → IsKnown (core_of s) → Step s event s2 → Move (core_of s) event.thread.0 event.act (core_of s2)
 step_move s s2 event inv step =

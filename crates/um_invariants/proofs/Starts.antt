@@ -13,8 +13,9 @@ use Rattle.um_base.specs.Lawful.{is_lawful_boot}
 use Rattle.um_machine.specs.declared.pending.Pending.{Pending}
 use Rattle.um_machine.specs.declared.thread.Thread.{Thread}
 use Rattle.um_machine.specs.Memory.{with_bytes, put_bytes}
+use Rattle.um_machine.specs.Joins.{is_ending}
 use Rattle.um_machine.specs.Order.{Steps}
-use Rattle.um_machine.specs.Run.{Offers, goes, skips_inherit, skips_drops, begins, exits, tends, Step, IsRun, opening, booted, loaded, blank}
+use Rattle.um_machine.specs.Run.{Offers, goes, skips_inherit, skips_drops, begins, exits, stops, leaves, tends, Step, IsRun, opening, booted, loaded, blank}
 use Rattle.um_machine.specs.State.{State, nobody, thread_at, is_living, is_started}
 use Rattle.um_invariants.specs.Described.{IsDescribed}
 use Rattle.um_invariants.proofs.Opening.{IsOpening, is_opening, boot_parts, passes_within}
@@ -55,6 +56,8 @@ no_offer s t p rest e (skips_inherit h due) = let none : (thread_at s t).pending
 no_offer s t p rest e (skips_drops h due) = let none : (thread_at s t).pending ≡ [] = ap (λ (me : Thread). me.pending) e in cc
 no_offer s t _ _ e (begins h living well line) = let none : is_living (thread_at s t).life ≡ false = ap (λ (me : Thread). is_living me.life) e in cc
 no_offer s t _ _ e (exits h living well line) = let none : is_living (thread_at s t).life ≡ false = ap (λ (me : Thread). is_living me.life) e in cc
+no_offer s t _ _ e (stops h living stop) = let none : is_living (thread_at s t).life ≡ false = ap (λ (me : Thread). is_living me.life) e in cc
+no_offer s t _ _ e (leaves ending) = let none : is_ending (thread_at s t) ≡ false = ap is_ending e in cc
 no_offer s t p _ e (tends is started) = let none : is_started (thread_at s t).life ≡ false = ap (λ (me : Thread). is_started me.life) e in cc
 
 no_step : (image : Image) (event : Event) (s2 : State) → image.boots ≡ [] → Step (opening image) event s2 → ⊥

@@ -2,7 +2,7 @@
 use Rattle.um_invariants.proofs.Claims.{IsStackRow, claims, Shaped, Fits}
 use Rattle.um_base.specs.declared.names.Policy.{Policy}
 use Rattle.um_base.specs.declared.image.ObjectDef.{ObjectDef}
-use Rattle.std.proofs.Common.{◌≡◌, inl, inr, ℕ, zero, suc, ◌+◌, ◌<◌, ◌≤◌, Bool, true, false, ◌==◌, ◌&&◌, List, [], ◌∷◌, length, map, refl, sym, ap, subst, ◌∙◌, Option, Some, None, slice_index_or, if◌then◌else◌, arith, IsTrue, nat_le, nat_lt, ◌≢◌}
+use Rattle.std.proofs.Common.{◌≡◌, inl, inr, ℕ, zero, suc, ◌+◌, ◌<◌, ◌≤◌, Bool, true, false, ◌==◌, ◌&&◌, List, [], ◌∷◌, length, map, refl, sym, ap, subst, ◌∙◌, Option, Some, None, slice_index_or, if◌then◌else◌, not, is_some, arith, IsTrue, nat_le, nat_lt, ◌≢◌}
 use Rattle.std.proofs.lemmas.Bool.Decides.{nat_tests}
 use Rattle.um_base.specs.declared.act.Act.{Act}
 use Rattle.um_base.specs.declared.image.Image.{Image}
@@ -20,19 +20,22 @@ use Rattle.um_machine.specs.declared.thread.Thread.{Thread}
 use Rattle.um_machine.specs.Memory.{allowed, string_read, le_value, bytes_at}
 use Rattle.um_machine.specs.Objects.{verdict, is_gone, is_free, any_holds, thread_holds, is_held, kind_number}
 use Rattle.um_machine.specs.Order.{Steps, to_addr, end_steps, fatal_steps, to_thread}
-use Rattle.um_machine.specs.Run.{MayChoose, is_free_for}
-use Rattle.um_machine.specs.State.{State, no_rows, vacant, thread_at, object_at, with_thread, with_object, pair_at, is_living}
+use Rattle.um_machine.specs.Futexes.{futex_answer, futex_refusal, futex_woken, wake_answer}
+use Rattle.um_machine.specs.Joins.{join_answer}
+use Rattle.um_machine.specs.Services.{without}
+use Rattle.um_machine.specs.Run.{MayChoose, is_free_for, stands_in}
+use Rattle.um_machine.specs.State.{State, no_rows, vacant, thread_at, object_at, with_thread, with_object, pair_at, is_living, is_to_resume, waiters_in, with_waiters}
 use Rattle.um_machine.specs.Goes.{Change, Next, Way, at_end, at_steps, no_access, went, with_answer}
 use Rattle.um_machine.specs.Outcomes.{is_fault}
-use Rattle.um_machine.specs.Writes.{cost_of, newborn, paid_from, paired, wrote}
+use Rattle.um_machine.specs.Writes.{cost_of, cut, newborn, paid_from, paired, wrote}
 use Rattle.um_machine.specs.Table.{after, act_of, amount_of, came_with, continues, dropped, effects, pays, reply_of, row_of, set_said, work_of}
 use Rattle.um_machine.proofs.AfterLemmas.{after-is}
 use Rattle.um_machine.proofs.EffectLemmas.{effects_of, next_of}
 use Rattle.um_invariants.proofs.Cores.{Call, Core, call_of, core_of, idle, call_at, status_at, with_call, with_status, with_seat, call_is, status_is, core-thread, core-object, core-kept, rest_of, with_init, with_kind, core-status}
 use Rattle.um_invariants.proofs.Guards.{IsRow, IsSited, IsStatic, Guarded, bearing, behind_birth, guarded_fatal, row_kind, kind_in}
-use Rattle.um_invariants.proofs.Moves.{IsReached, is_quiet, Turn, turns, Move, goes, starts, gives, bears, reserves, recycles}
+use Rattle.um_invariants.proofs.Moves.{IsClaimed, IsReached, is_quiet, Turn, same, turns, Move, goes, cuts, starts, gives, bears, reserves, recycles}
 use Rattle.um_invariants.proofs.Facts.{equals, left_of, right_of, none_checked, is_false, unfree, same_kind, no_slice, lively, is_standing}
-use Rattle.um_invariants.proofs.Turns.{IsKnown, IsReady, AreAside, is_even, is_turn, turn, turned, turn-made, end_moves, row_is, check_moves, even-copied, even-if, even-text, even-work}
+use Rattle.um_invariants.proofs.Turns.{IsKnown, IsReady, AreAside, is_turn, turn, turned, turn-made, core-waiters, core-wrote, end_moves, row_is, check_moves, even-asked, even-copied, even-if, even-text, even-work}
 use Rattle.um_invariants.proofs.MarkMoves.{set_moves, clear_moves}
 use Rattle.um_invariants.proofs.PairMoves.{core-paired, give_moves, core_dropped, core-drop, was_last, drop_move, drop_moves, paired_row}
 
@@ -176,11 +179,42 @@ turn-after : (s : State) (t x : ℕ) (p : Pending) (rest : Steps) → IsKnown (c
 turn-after s t x p rest inv aside goes_so g =
     subst (λ (u : State). Turn (core_of s) t (core_of u)) (sym (after-is s t x p rest)) (turn-made s t (effects_of s t x p) rest (next_of s t x p) aside goes_so inv.reached.sited g)
 
+-- a step that writes aside alone, and leaves its thread as it is
+stays-after : (s : State) (t x : ℕ) (p : Pending) (rest : Steps) → AreAside (effects_of s t x p) → next_of s t x p ≡ Next.stays → Turn (core_of s) t (core_of (after s t x p rest))
+stays-after s t x p rest aside stays =
+    let u = wrote (effects_of s t x p) s in
+    subst (λ (now : State). Turn (core_of s) t (core_of now)) (sym (after-is s t x p rest))
+    (subst (λ (next : Next). Turn (core_of s) t (core_of (went rest u t next))) (sym stays) (subst (λ (c : Core). Turn (core_of s) t c) (sym (core-wrote s (effects_of s t x p) aside)) same))
+
+-- a thread that waits keeps its object
+waits_keeps : (c : Core) (u : ℕ) → IsClaimed c → (b : Bool) → (call_at c u).keeps ≡ b → is_to_resume (call_at c u).pending ≡ true → (call_at c u).keeps ≡ true
+waits_keeps c u inv true k h = k
+waits_keeps c u inv false k h = let none : is_to_resume (call_at c u).pending ≡ false = ap is_to_resume (inv.idle u k) in cc
+
+waiting_parts : (a b c d : Bool) → (a && ((b && c) && d)) ≡ true → b ≡ true
+waiting_parts true true c d h = refl
+waiting_parts true false c d h = cc
+waiting_parts false b c d h = cc
+
+cut_moves : (s : State) (t x : ℕ) (who : ThreadIx) (rest : Steps) → IsKnown (core_of s) → MayChoose s t x (Pending.Cut who) → Move (core_of s) t (Act.Cut who) (core_of (after s t x (Pending.Cut who) rest))
+cut_moves s t x who rest inv chosen =
+    let target = thread_at s who.0 in
+    let ws = without who.0 (waiters_in s x) in
+    let s2 = with_waiters s x ws in
+    let e = core-waiters s x ws in
+    let resumes : is_to_resume target.pending ≡ true = waiting_parts target.aborted (is_to_resume target.pending) (not (is_some target.told)) (stands_in who.0 (waiters_in s x)) chosen in
+    let keeps = waits_keeps (core_of s) who.0 inv.claimed (call_at (core_of s) who.0).keeps refl (ap (λ (call : Call). is_to_resume call.pending) (call_is s who.0) ∙ resumes) in
+    cuts who (subst (λ (c : Core). Turn c who.0 (core_of (after s t x (Pending.Cut who) rest))) e
+    (turn s2 who.0 (cut (thread_at s2 who.0)) (Pending.Killed ∷ []) refl refl (tt, (tt, (λ w h. cc), keeps))))
+
 -- each step is a move
 pub moves : (s : State) (t x : ℕ) (p : Pending) (rest : Steps) → IsKnown (core_of s) → IsReady (core_of s) t p rest → MayChoose s t x p → Move (core_of s) t (act_of s t x p) (core_of (after s t x p rest))
 moves s t x Pending.Exit rest inv ready chosen =
     let me = thread_at s t in
     let steps = end_steps s.image t me in end_moves s t Act.Exit (at_end s t me steps) steps false tt refl tt (shaped_end s t inv ready.1.2, (λ w. refl), ready.1.2)
+moves s t x Pending.Killed rest inv ready chosen =
+    let me = thread_at s t in
+    let steps = end_steps s.image t me in end_moves s t Act.Killed (at_end s t me steps) steps false tt refl tt (shaped_end s t inv ready.1.2, (λ w. refl), ready.1.2)
 moves s t x (Pending.Fatal reason cause) rest inv ready chosen =
     let me = thread_at s t in
     let steps = fatal_steps s.image t me reason s.image.policy in
@@ -189,7 +223,7 @@ moves s t x (Pending.Fatal reason cause) rest inv ready chosen =
 moves s t x (Pending.Answer reply to) rest inv ready chosen =
     let me = thread_at s t in
     let living = is_living me.life in
-    end_moves s t (Act.Answered (reply_of me reply)) (at_steps s.image (record me { checked = no_rows; registers = with_answer me.registers to (reply_of me reply) }) rest) rest living tt refl ready.0
+    end_moves s t (Act.Answered (reply_of me reply)) (at_steps s.image (record me { checked = no_rows; until = None; registers = with_answer me.registers to (reply_of me reply) }) rest) rest living tt refl ready.0
     (subst (λ (steps : Steps). Shaped s.image t living no_rows steps) (sym ready.1.0) tt, (λ w. ap (λ (steps : Steps). claims s.image w steps) ready.1.0), ready.1.2)
 moves s t x (Pending.Check a kind want refusal) rest inv ready chosen = check_moves s t a kind want refusal rest inv ready (verdict s t a.0 kind want) refl
 moves s t x (Pending.Load to a n) rest inv ready chosen =
@@ -248,4 +282,14 @@ moves s t x Pending.Recycle rest inv ready chosen =
     subst (λ (c : Core). Move (core_of s) t (Act.Recycle (to_addr (addr_of s.image x))) c) (sym (core-object s x vacant))
     (recycles x (ap is_gone (status_is s x) ∙ chosen.0.0) (unchecked s.image x 0 s.threads (is_false (is_held s x) chosen.0.1))
     (λ u k. let zeroth : 0 + u ≡ u = omega arith in subst (λ (n : ℕ). own_row s.image n ≢ x) zeroth (unkept s.image x 0 s.threads (is_false (is_held s x) chosen.0.1) u k)))
+moves s t x (Pending.Join who timeout) rest inv ready chosen = goes refl (turn-after s t x (Pending.Join who timeout) rest inv refl (even-asked (join_answer s t x who.0 timeout)) ready)
+moves s t x (Pending.FutexWait a value timeout) rest inv ready chosen =
+    goes refl (turn-after s t x (Pending.FutexWait a value timeout) rest inv refl (even-asked (futex_answer s t a.0 value timeout)) ready)
+moves s t x (Pending.FutexWake a all) rest inv ready chosen =
+    goes refl (turn-after s t x (Pending.FutexWake a all) rest inv refl (even-asked (wake_answer (futex_refusal s t a.0) (length (futex_woken s t a.0 all)))) ready)
+moves s t x Pending.Left rest inv ready chosen = goes refl (stays-after s t x Pending.Left rest refl refl)
+moves s t x Pending.Tick rest inv ready chosen = goes refl (stays-after s t x Pending.Tick rest refl refl)
+moves s t x (Pending.TimeOut who) rest inv ready chosen = goes refl (stays-after s t x (Pending.TimeOut who) rest refl refl)
+moves s t x Pending.Expire rest inv ready chosen = goes refl (stays-after s t x Pending.Expire rest refl refl)
+moves s t x (Pending.Cut who) rest inv ready chosen = cut_moves s t x who rest inv chosen
 moves s t x p rest inv ready chosen = goes refl (turn-after s t x p rest inv refl refl ready)

@@ -1,6 +1,7 @@
 -- A thread is written, and what holds of all threads is kept.
-use Rattle.std.proofs.Common.{◌≡◌, ◌≢◌, inl, ◌≤◌, ℕ, Bool, true, false, List, [], ◌∷◌, refl, sym, ap, subst, ◌∙◌, arith, slice_index_or}
+use Rattle.std.proofs.Common.{◌≡◌, ◌≢◌, inl, ◌≤◌, ℕ, zero, suc, Bool, true, false, List, [], ◌∷◌, refl, sym, ap, subst, ◌∙◌, arith, slice_index_or}
 use Rattle.std.proofs.lemmas.List.{length-set, get_or-set_other}
+use Rattle.um_base.specs.declared.image.Image.{Image}
 use Rattle.um_machine.specs.declared.object.Object.{Object}
 use Rattle.um_machine.specs.declared.pending.Pending.{Pending}
 use Rattle.um_machine.specs.declared.thread.Thread.{Thread}
@@ -8,6 +9,7 @@ use Rattle.um_machine.specs.Order.{Steps}
 use Rattle.um_machine.specs.State.{State, nobody, vacant, thread_at, object_at, with_thread, with_object}
 use Rattle.um_invariants.proofs.Cores.{at_set}
 use Rattle.um_invariants.proofs.Facts.{both_of}
+use Rattle.um_invariants.proofs.ThreadCells.{cell}
 use Rattle.um_invariants.proofs.ThreadWaits.{times}
 use Rattle.um_invariants.proofs.ThreadWords.{is_on, may_step, may_stand, IsFramed, are_plain, are_orderly, DueFrom, is_resume, IsOrderly, AreDue, AreKept, IsMade, IsAlike, IsBase, IsOffered}
 
@@ -37,6 +39,10 @@ alike-orderly x y a h = record {
   from = from-less y.pending x.due y.due a.due (rw a.pending h.from);
   told = λ e. a.told ∙ h.told (ap is_resume (sym a.pending) ∙ e);
 }
+
+-- what is due may be passed on, where fewer rows are
+pub alike-due : (image : Image) (pairs : List (List Bool)) (t : ℕ) (x y : Thread) → IsAlike x y → AreDue image pairs t x → AreDue image pairs t y
+alike-due image pairs t x y a due r h = rw a.child (due r (a.due r h))
 
 pub alike-framed : (x y : Thread) → IsAlike x y → IsFramed x false y
 alike-framed x y a =
@@ -71,7 +77,7 @@ orderly-rest p rest h = h
 
 -- States.
 
-pub base-same : (s s1 : State) → AreKept s → s1.image ≡ s.image → s1.threads ≡ s.threads → s1.pairs ≡ s.pairs → ((x u : ℕ) → times u (object_at s1 x).waiters ≤ times u (object_at s x).waiters) → IsBase s s1
+pub base-same : (s s1 : State) → AreKept s → s1.image ≡ s.image → s1.threads ≡ s.threads → s1.pairs ≡ s.pairs → ((x u : ℕ) → times u (cell s1 x) ≤ times u (cell s x)) → IsBase s s1
 base-same s s1 kept image threads pairs waiters = record {
   image = image;
   many = rw threads refl;
@@ -84,8 +90,10 @@ pub base-self : (s : State) → AreKept s → IsBase s s
 base-self s kept = base-same s s kept refl refl refl (λ x u. omega arith)
 
 -- an object is written, on which nobody else waits
-pub fewer-wait : (s : State) (y : ℕ) (o : Object) → ((u : ℕ) → times u o.waiters ≤ times u (object_at s y).waiters) → (x u : ℕ) → times u (object_at (with_object s y o) x).waiters ≤ times u (object_at s x).waiters
-fewer-wait s y o fewer x u =
+pub fewer-wait : (s : State) (y : ℕ) (o : Object) → ((u : ℕ) → times u o.waiters ≤ times u (object_at s y).waiters) → (x u : ℕ) → times u (cell (with_object s y o) x) ≤ times u (cell s x)
+fewer-wait s y o fewer zero u = omega arith
+fewer-wait s y o fewer (suc zero) u = omega arith
+fewer-wait s y o fewer (suc (suc x)) u =
     at_set (λ n (other : Object). times u other.waiters ≤ times u (object_at s n).waiters) s.objects y x o vacant (fewer u) (omega arith)
 
 pub base-object : (s : State) → AreKept s → (y : ℕ) (o : Object) → o.waiters ≡ (object_at s y).waiters → IsBase s (with_object s y o)
@@ -94,7 +102,7 @@ base-object s kept y o same = base-same s (with_object s y o) kept refl refl ref
 -- all that is kept is, where nothing else than a base changes
 pub base-kept : (s s1 : State) → AreKept s → IsBase s s1 → AreKept s1
 base-kept s s1 kept base =
-    let waiting : (x u : ℕ) → 1 ≤ times u (object_at s1 x).waiters → 1 ≤ times u (object_at s x).waiters = λ x u h. (let less = base.waiters x u in omega (arith, less, h)) in
+    let waiting : (x u : ℕ) → 1 ≤ times u (cell s1 x) → 1 ≤ times u (cell s x) = λ x u h. (let less = base.waiters x u in omega (arith, less, h)) in
     record {
       many = base.many ∙ kept.many;
       orderly = λ u. alike-orderly (thread_at s u) (thread_at s1 u) (base.alike u) (kept.orderly u);
@@ -105,13 +113,13 @@ base-kept s s1 kept base =
     }
 
 -- a thread is written that doesn't wait
-pub written-kept : (s : State) (t : ℕ) (me : Thread) → AreKept s → ((x : ℕ) → times t (object_at s x).waiters ≡ 0) → IsOrderly me → AreDue s.image s.pairs t me → AreKept (with_thread s t me)
+pub written-kept : (s : State) (t : ℕ) (me : Thread) → AreKept s → ((x : ℕ) → times t (cell s x) ≡ 0) → IsOrderly me → AreDue s.image s.pairs t me → AreKept (with_thread s t me)
 written-kept s t me kept apart orderly due = record {
   many = length-set s.threads t me ∙ kept.many;
   orderly = λ u. at_set (λ n (other : Thread). IsOrderly other) s.threads t u me nobody orderly (kept.orderly u);
   due = λ u. at_set (λ n (other : Thread). AreDue s.image s.pairs n other) s.threads t u me nobody due (kept.due u);
   waits = λ x u h. (
-      let other : u ≢ t = λ same. (let none = apart x in let some : 1 ≤ times t (object_at s x).waiters = subst (λ (n : ℕ). 1 ≤ times n (object_at s x).waiters) same h in omega (arith, none, some)) in
+      let other : u ≢ t = λ same. (let none = apart x in let some : 1 ≤ times t (cell s x) = subst (λ (n : ℕ). 1 ≤ times n (cell s x)) same h in omega (arith, none, some)) in
       let was = kept.waits x u h in
       let here : thread_at (with_thread s t me) u ≡ thread_at s u = get_or-set_other s.threads t u me nobody other in
       (ap (λ (th : Thread). is_resume th.pending) here ∙ was.0, ap (λ (th : Thread). th.told) here ∙ was.1));

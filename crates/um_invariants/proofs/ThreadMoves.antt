@@ -96,7 +96,7 @@ module _ (s : State) (kept : AreKept s) (t : ℕ) (p : Pending) (rest : Steps) (
     goes-made (Next.on change way) h = changes change (steps_by rest way) h (plain-way rest way o.behind)
     goes-made (Next.checks x v way) h = checks x v (steps_by rest way) h (plain-way rest way o.behind)
     goes-made (Next.answers to reply) h =
-        on (record (thread_at u t) { checked = no_rows; registers = with_answer (thread_at u t).registers to reply }) rest (untold h) refl refl o.behind
+        on (record (thread_at u t) { checked = no_rows; until = None; registers = with_answer (thread_at u t).registers to reply }) rest (untold h) refl refl o.behind
     goes-made (Next.owns keeps) h = on (record (thread_at u t) { keeps_own = (thread_at u t).keeps_own && keeps }) rest (untold h) refl refl o.behind
     goes-made (Next.begins (Some instr)) h =
         let me = thread_at u t in on (record me { registers = with_begin me.registers instr }) (steps_of u.image t me instr) (untold h) refl refl (plain-steps u.image t me instr)

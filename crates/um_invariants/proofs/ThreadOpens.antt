@@ -14,13 +14,14 @@ use Rattle.um_machine.specs.declared.object.Object.{Object}
 use Rattle.um_machine.specs.declared.thread.Thread.{Thread}
 use Rattle.um_machine.specs.Memory.{with_bytes, put_bytes}
 use Rattle.um_machine.specs.Run.{blank, opening, loaded, booted, booted_one, granted, boot_thread, index_or, objects_from}
-use Rattle.um_machine.specs.State.{State, nobody, vacant, no_rows, thread_at, object_at, with_thread, with_pair}
+use Rattle.um_machine.specs.State.{State, nobody, vacant, no_rows, thread_at, with_thread, with_pair}
 use Rattle.um_invariants.specs.Described.{IsDescribed}
 use Rattle.um_invariants.proofs.BootClaims.{replicate_at}
 use Rattle.um_invariants.proofs.Cores.{at_set}
 use Rattle.um_invariants.proofs.Facts.{none_checked}
 use Rattle.um_invariants.proofs.Opening.{is_boot, boot_parts, passes_within}
 use Rattle.um_invariants.proofs.SitedImages.{is_sited}
+use Rattle.um_invariants.proofs.ThreadCells.{cell}
 use Rattle.um_invariants.proofs.ThreadWaits.{times}
 use Rattle.um_invariants.proofs.ThreadWords.{AreKept}
 use Rattle.um_invariants.proofs.ThreadStarts.{real-below}
@@ -36,7 +37,7 @@ pub record IsOpened (image : Image) (s : State) : Type 0 where
   pub image_is : s.image ≡ image
   pub many : length s.threads ≡ THREADS
   pub bare : (u : ℕ) → IsBare (thread_at s u)
-  pub waiters : (x u : ℕ) → times u (object_at s x).waiters ≡ 0
+  pub waiters : (x u : ℕ) → times u (cell s x) ≡ 0
 
 no-due : (r : ℕ) → slice_index_or no_rows r false ≡ false
 no-due r = none_checked r ROWS
@@ -51,29 +52,35 @@ none-wait bs x [] y u = ap (λ (o : Object). times u o.waiters) (replicate_at (R
 none-wait bs x (o ∷ os) zero u = refl
 none-wait bs x (o ∷ os) (suc y) u = none-wait bs (x + 1) os y u
 
+none-wait-in : (image : Image) (x u : ℕ) → times u (cell (blank image) x) ≡ 0
+unfolding blank
+none-wait-in image zero u = refl
+none-wait-in image (suc zero) u = refl
+none-wait-in image (suc (suc x)) u = none-wait image.boots 0 image.objects x u
+
 blank-opened : (image : Image) → IsOpened image (blank image)
 unfolding blank
 blank-opened image = record {
   image_is = refl;
   many = length-replicate THREADS nobody;
   bare = λ u. subst (λ (th : Thread). IsBare th) (sym (replicate_at THREADS u nobody)) bare-nobody;
-  waiters = λ x u. none-wait image.boots 0 image.objects x u;
+  waiters = none-wait-in image;
 }
 
--- the same threads and objects
-same-opened : (image : Image) (s s2 : State) → s2.image ≡ s.image → s2.threads ≡ s.threads → s2.objects ≡ s.objects → IsOpened image s → IsOpened image s2
-same-opened image s s2 images threads objects o = record {
+-- the same threads and cells
+same-opened : (image : Image) (s s2 : State) → s2.image ≡ s.image → s2.threads ≡ s.threads → ((x : ℕ) → cell s2 x ≡ cell s x) → IsOpened image s → IsOpened image s2
+same-opened image s s2 images threads cells o = record {
   image_is = images ∙ o.image_is;
   many = ap (λ (ts : List Thread). length ts) threads ∙ o.many;
   bare = λ u. subst (λ (ts : List Thread). IsBare (slice_index_or ts u nobody)) (sym threads) (o.bare u);
-  waiters = λ x u. ap (λ (os : List Object). times u (slice_index_or os x vacant).waiters) objects ∙ o.waiters x u;
+  waiters = λ x u. ap (times u) (cells x) ∙ o.waiters x u;
 }
 
 bytes-opened : (image : Image) (s : State) (a : ℕ) (bytes : List ℕ) → IsOpened image s → IsOpened image (with_bytes s a bytes)
 bytes-opened image s a bytes o =
     elim (nat_lt a STACK_AREA) as (λ b. IsOpened image (if b then record s { memory = put_bytes s.memory (a - PARTITION_AREA) bytes } else record s { stacks = put_bytes s.stacks (a - STACK_AREA) bytes })) [
-      | true ↦ same-opened image s (record s { memory = put_bytes s.memory (a - PARTITION_AREA) bytes }) refl refl refl o
-      | false ↦ same-opened image s (record s { stacks = put_bytes s.stacks (a - STACK_AREA) bytes }) refl refl refl o
+      | true ↦ same-opened image s (record s { memory = put_bytes s.memory (a - PARTITION_AREA) bytes }) refl refl (λ x. refl) o
+      | false ↦ same-opened image s (record s { stacks = put_bytes s.stacks (a - STACK_AREA) bytes }) refl refl (λ x. refl) o
     ]
 
 loaded-opened : (image : Image) (ps : List Partition) (s : State) → IsOpened image s → IsOpened image (loaded ps s)
@@ -84,7 +91,7 @@ loaded-opened image (p ∷ ps) s o = loaded-opened image ps (with_bytes s p.rang
 
 granted-opened : (image : Image) (t : ℕ) (xs : List Row) (s : State) → IsOpened image s → IsOpened image (granted t xs s)
 granted-opened image t [] s o = o
-granted-opened image t (x ∷ xs) s o = granted-opened image t xs (with_pair s t x.0 true) (same-opened image s (with_pair s t x.0 true) refl refl refl o)
+granted-opened image t (x ∷ xs) s o = granted-opened image t xs (with_pair s t x.0 true) (same-opened image s (with_pair s t x.0 true) refl refl (λ x. refl) o)
 
 started-opened : (image : Image) (s : State) (t : ℕ) (boot : Boot) → IsOpened image s → IsOpened image (with_thread s t (boot_thread s.image boot))
 started-opened image s t boot o =

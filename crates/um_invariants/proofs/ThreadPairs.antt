@@ -9,16 +9,16 @@ use Rattle.um_base.specs.declared.limits.TheConstants.{ROWS, STATIC_ROWS, PARTIT
 use Rattle.um_base.specs.declared.names.ThreadIx.{ThreadIx}
 use Rattle.um_machine.specs.declared.thread.Thread.{Thread}
 use Rattle.um_machine.specs.Objects.{has_no_pair}
-use Rattle.um_machine.specs.State.{State, nobody, vacant, no_rows, thread_at, object_at, with_object, pair_at, with_pair}
+use Rattle.um_machine.specs.State.{State, nobody, vacant, no_rows, thread_at, object_at, with_object, with_thread, pair_at, with_pair}
 use Rattle.um_machine.specs.Memory.{put_bytes}
 use Rattle.um_machine.specs.Table.{with_due, with_dues, stays_due, paired, dropped}
-use Rattle.um_machine.specs.Writes.{Edit, Effect, Effects, drops, edited, effect, wrote}
+use Rattle.um_machine.specs.Writes.{Edit, Effect, Effects, Flag, drops, edited, effect, flagged, wrote}
 use Rattle.um_machine.proofs.EffectLemmas.{all-wrote}
 use Rattle.um_invariants.proofs.Cores.{at_set}
 use Rattle.um_invariants.proofs.Facts.{both_of, each-of, none_checked, set-less}
 use Rattle.um_invariants.proofs.ThreadCounts.{equal_or_not}
 use Rattle.um_invariants.proofs.ThreadWords.{has_pair, MayPass, AreDue, AreKept, IsAlike, IsBase}
-use Rattle.um_invariants.proofs.ThreadFrames.{alike-self, alike-then, base-self, base-same, base-object, base-kept, fewer-wait}
+use Rattle.um_invariants.proofs.ThreadFrames.{alike-due, alike-self, alike-then, base-self, base-same, base-object, base-kept, fewer-wait}
 
 -- what a row's change does to a thread at an index
 dues-at : (x u : ℕ) (holders : List Bool) (ts : List Thread) (t : ℕ) → (slice_index_or (with_dues x u holders ts) t nobody ≡ with_due x (u + t) holders (slice_index_or ts t nobody)) ⊎ (slice_index_or (with_dues x u holders ts) t nobody ≡ nobody)
@@ -92,37 +92,49 @@ base-compose s s1 s2 one two = record {
   waiters = λ x u. (let first = one.waiters x u in let later = two.waiters x u in omega (arith, first, later));
 }
 
--- a write that wakes, dooms and starts nobody, and makes nobody wait
+-- a write that wakes, dooms, starts and cuts nobody, and leaves who waits
 abbrev pub is_calm : Effect → Bool
 is_calm (Effect.wakes woken) = false
 is_calm (Effect.dooms who) = false
 is_calm (Effect.starts who thread) = false
+is_calm (Effect.cuts who) = false
+is_calm (Effect.waiters c ws) = false
 is_calm (Effect.object x (Edit.works contents waiters buffer)) = false
+is_calm (Effect.object x (Edit.runs_out contents waiters)) = false
 is_calm e = true
 
 base-edited : (s : State) → AreKept s → (y : ℕ) (edit : Edit) → is_calm (Effect.object y edit) ≡ true → IsBase s (effect (Effect.object y edit) s)
 base-edited s kept y (Edit.works contents waiters buffer) h = absurd (true≢false (sym h))
+base-edited s kept y (Edit.runs_out contents waiters) h = absurd (true≢false (sym h))
 base-edited s kept y (Edit.reserved kind cost) h =
     let o = edited (Edit.reserved kind cost) (object_at s y) in base-same s (with_object s y o) kept refl refl refl (fewer-wait s y o (λ u. omega arith))
 base-edited s kept y Edit.vacates h = base-same s (with_object s y vacant) kept refl refl refl (fewer-wait s y vacant (λ u. omega arith))
 base-edited s kept y edit h = base-object s kept y (edited edit (object_at s y)) refl
 
-base-moved : (s : State) → AreKept s → (who d : ℕ) → IsBase s (effect (Effect.moves who d) s)
-base-moved s kept who d =
-    let me = record (thread_at s who) { domain = d } in
+-- a thread is written, of which nothing is kept
+base-written : (s : State) → AreKept s → (who : ℕ) (me : Thread) → IsAlike (thread_at s who) me → IsBase s (with_thread s who me)
+base-written s kept who me alike =
     record {
       image = refl;
       many = length-set s.threads who me;
-      alike = λ u. at_set (λ n (other : Thread). IsAlike (thread_at s n) other) s.threads who u me nobody (record { life = refl; doomed = refl; pending = refl; told = refl; child = refl; due = λ r h. h }) (alike-self (thread_at s u));
-      due = λ u. at_set (λ n (other : Thread). AreDue s.image s.pairs n other) s.threads who u me nobody (kept.due who) (kept.due u);
+      alike = λ u. at_set (λ n (other : Thread). IsAlike (thread_at s n) other) s.threads who u me nobody alike (alike-self (thread_at s u));
+      due = λ u. at_set (λ n (other : Thread). AreDue s.image s.pairs n other) s.threads who u me nobody (alike-due s.image s.pairs who (thread_at s who) me alike (kept.due who)) (kept.due u);
       waiters = λ x u. omega arith;
     }
+
+base-flagged : (s : State) → AreKept s → (who : ℕ) (flag : Flag) → IsBase s (effect (Effect.flags who flag) s)
+base-flagged s kept who Flag.aborted = base-written s kept who (flagged Flag.aborted (thread_at s who)) (record { life = refl; doomed = refl; pending = refl; told = refl; child = refl; due = λ r h. h })
+base-flagged s kept who (Flag.suspended on) =
+    base-written s kept who (flagged (Flag.suspended on) (thread_at s who)) (record { life = refl; doomed = refl; pending = refl; told = refl; child = refl; due = λ r h. h })
 
 base-effect : (s : State) → AreKept s → (e : Effect) → is_calm e ≡ true → IsBase s (effect e s)
 base-effect s kept (Effect.wakes woken) h = absurd (true≢false (sym h))
 base-effect s kept (Effect.dooms who) h = absurd (true≢false (sym h))
 base-effect s kept (Effect.starts who thread) h = absurd (true≢false (sym h))
-base-effect s kept (Effect.moves who d) h = base-moved s kept who d
+base-effect s kept (Effect.cuts who) h = absurd (true≢false (sym h))
+base-effect s kept (Effect.waiters c ws) h = absurd (true≢false (sym h))
+base-effect s kept (Effect.moves who d) h = base-written s kept who (record (thread_at s who) { domain = d }) (record { life = refl; doomed = refl; pending = refl; told = refl; child = refl; due = λ r h. h })
+base-effect s kept (Effect.flags who flag) h = base-flagged s kept who flag
 base-effect s kept (Effect.pair who x there) h = base-paired s kept who x there
 base-effect s kept (Effect.object y edit) h = base-edited s kept y edit h
 base-effect s kept (Effect.bytes a bs) h =

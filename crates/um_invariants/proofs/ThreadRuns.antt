@@ -9,26 +9,31 @@ use Rattle.um_machine.specs.Order.{Steps}
 use Rattle.um_machine.specs.Run.{MayChoose, Offers, Runs, Step, opening}
 use Rattle.um_machine.specs.State.{State}
 use Rattle.um_machine.specs.Table.{after}
-use Rattle.um_machine.specs.Run.{is_tending}
 use Rattle.um_invariants.specs.Described.{IsDescribed}
 use Rattle.um_invariants.proofs.Cores.{core_of}
 use Rattle.um_invariants.proofs.Reached.{image_move}
 use Rattle.um_invariants.proofs.RunMoves.{known_step, step_move}
 use Rattle.um_invariants.proofs.Turns.{IsKnown}
-use Rattle.um_invariants.proofs.ThreadCleans.{pair-base, recycle-base}
+use Rattle.um_invariants.proofs.ThreadCleans.{pair-base, recycle-base, tick-base}
 use Rattle.um_invariants.proofs.ThreadFrames.{base-kept}
 use Rattle.um_invariants.proofs.ThreadOffers.{made, offered}
 use Rattle.um_invariants.proofs.ThreadOpens.{opening-kept}
-use Rattle.um_invariants.proofs.ThreadWords.{AreKept}
+use Rattle.um_invariants.proofs.ThreadWords.{is_beside, AreKept}
+use Rattle.um_invariants.proofs.ThreadWorks.{cut-kept, expire-kept, left-kept, timeout-kept}
 
 step-kept : (s : State) (event : Event) (s2 : State) → AreKept s → IsKnown (core_of s) → IsLawful s.image → Step s event s2 → AreKept s2
-step-kept s event s2 kept known lawful step = subst AreKept (sym step.leaves) (by step.step step.rest step.offered step.chosen (is_tending step.step) refl)
+step-kept s event s2 kept known lawful step = subst AreKept (sym step.leaves) (by step.step step.rest step.offered step.chosen (is_beside step.step) refl)
   where
-    by : (p : Pending) (rest : Steps) → Offers s event.thread.0 p rest → MayChoose s event.thread.0 step.row p → (b : Bool) → is_tending p ≡ b → AreKept (after s event.thread.0 step.row p rest)
+    by : (p : Pending) (rest : Steps) → Offers s event.thread.0 p rest → MayChoose s event.thread.0 step.row p → (b : Bool) → is_beside p ≡ b → AreKept (after s event.thread.0 step.row p rest)
     by p rest offers chosen false e =
         (made s event.thread.0 step.row p rest kept known lawful e chosen (offered s event.thread.0 step.row kept p rest offers e chosen)).kept
     by (Pending.CleanPair who) rest offers chosen true e = base-kept s _ kept (pair-base s event.thread.0 step.row who rest kept)
     by Pending.Recycle rest offers chosen true e = base-kept s _ kept (recycle-base s event.thread.0 step.row rest kept)
+    by Pending.Left rest offers chosen true e = left-kept s event.thread.0 step.row rest kept
+    by Pending.Tick rest offers chosen true e = base-kept s _ kept (tick-base s event.thread.0 step.row rest kept)
+    by (Pending.TimeOut who) rest offers chosen true e = timeout-kept s event.thread.0 step.row who rest kept chosen
+    by Pending.Expire rest offers chosen true e = expire-kept s event.thread.0 step.row rest kept
+    by (Pending.Cut who) rest offers chosen true e = cut-kept s event.thread.0 step.row who rest kept chosen
     by p rest offers chosen true e = absurd (false≢true e)
 
 run-kept : (s : State) (events : List Event) (s2 : State) → AreKept s → IsKnown (core_of s) → IsLawful s.image → Runs s events s2 → AreKept s2

@@ -4,11 +4,12 @@ use Rattle.std.specs.Prelude.{◌==◌}
 use Rattle.um_base.specs.declared.ask.Ask.{Ask}
 use Rattle.um_base.specs.declared.ask.Waiter.{Waiter}
 use Rattle.um_base.specs.declared.names.Errno.{Errno}
+use Rattle.um_base.specs.declared.names.Reply.{Reply}
 use Rattle.um_base.specs.declared.names.ThreadIx.{ThreadIx}
 use Rattle.um_base.specs.declared.names.Timeout.{Timeout}
 use Rattle.um_machine.specs.declared.contents.Contents.{Contents}
-use Rattle.um_machine.specs.Services.{Acted, in_order, without, queue, stack, pipe, blocks, is_empty, sem_take, sem_give, sem_act, mutex_lock, mutex_passes, mutex_unlock, mutex_act, is_getter, is_putter, msgq_put, msgq_take, msgq_get, msgq_peek, msgq_act, stack_push, stack_pop, stack_act, is_reader, is_writer, pipe_write, pipe_take, pipe_read, pipe_act, renews, fills, uses, acted_by}
-use Rattle.um_invariants.proofs.ThreadWaits.{numbers, IsServed, AreApart, Among, times-first, all-order, some-order, served-none, served-blocks, served-one, served-all, served-some, served-still, readers-few, readers-times, writers-few, writers-times}
+use Rattle.um_machine.specs.Services.{Acted, in_order, without, queue, stack, pipe, blocks, is_empty, sem_take, sem_give, sem_act, mutex_lock, mutex_passes, mutex_unlock, mutex_act, is_getter, is_putter, msgq_put, msgq_take, msgq_get, msgq_peek, msgq_act, stack_push, stack_pop, stack_act, is_reader, is_writer, pipe_write, pipe_take, pipe_read, pipe_act, timer_stops, stopped_act, running_act, renews, fills, uses, acted_by}
+use Rattle.um_invariants.proofs.ThreadWaits.{numbers, IsServed, AreApart, Among, times-first, all-order, some-order, served-none, served-blocks, served-waits, served-one, served-all, served-some, served-still, readers-few, readers-times, writers-few, writers-times}
 
 module _ (ws : List Waiter) (who : Waiter) (apart : AreApart ws) where
   abbrev Serves : Acted → Type 0
@@ -86,7 +87,7 @@ module _ (ws : List Waiter) (who : Waiter) (apart : AreApart ws) where
   queues size most messages (Ask.MsgqPut timeout) = puts size most messages who.bytes timeout (in_order (filter is_getter ws)) (some-order is_getter ws)
   queues size most messages (Ask.MsgqGet timeout) = gets size most messages timeout
   queues size most messages Ask.MsgqPeek = peeks size most messages
-  queues size most messages Ask.MsgqPurge = served-some ws who.thread.0 Errno.ENOMSG is_putter _ apart refl refl
+  queues size most messages Ask.MsgqPurge = served-some ws who.thread.0 (Reply.Fail Errno.ENOMSG) is_putter _ apart refl refl
   queues size most messages Ask.MsgqUsed = none _ refl refl
   queues size most messages _ = none _ refl refl
 
@@ -132,6 +133,25 @@ module _ (ws : List Waiter) (who : Waiter) (apart : AreApart ws) where
   pipes size bytes closed Ask.PipeClose = served-all ws who.thread.0 Errno.EPIPE _ apart refl refl
   pipes size bytes closed _ = none _ refl refl
 
+  -- Timers.
+
+  stops : (vs : List Waiter) → Among vs ws → Serves (timer_stops ws vs)
+  stops [] among = none _ refl refl
+  stops (v ∷ vs) among = first v vs _ among refl refl
+
+  stopped : (status : ℕ) (ask : Ask) → Serves (stopped_act status ws who ask)
+  stopped status (Ask.TimerStart deadline) = none _ refl refl
+  stopped status Ask.TimerStatus = none _ refl refl
+  stopped status Ask.TimerSync = none _ refl refl
+  stopped status _ = none _ refl refl
+
+  running : (deadline : ℕ) (ask : Ask) → Serves (running_act deadline ws who ask)
+  running deadline (Ask.TimerStart later) = none _ refl refl
+  running deadline Ask.TimerStop = stops (in_order ws) (all-order ws)
+  running deadline Ask.TimerStatus = none _ refl refl
+  running deadline Ask.TimerSync = served-waits ws who (Contents.Running deadline) apart
+  running deadline _ = none _ refl refl
+
   -- Any contents.
 
   used : (contents : Contents) (ask : Ask) → Serves (uses contents ws who ask)
@@ -140,6 +160,8 @@ module _ (ws : List Waiter) (who : Waiter) (apart : AreApart ws) where
   used (Contents.Msgq q) ask = queues q.size q.most q.messages ask
   used (Contents.Stack s) ask = stacks s.most s.values ask
   used (Contents.Pipe p) ask = pipes p.size p.bytes p.closed ask
+  used (Contents.Stopped status) ask = stopped status ask
+  used (Contents.Running deadline) ask = running deadline ask
   used contents ask = none _ refl refl
 
   filled : (new contents : Contents) → Serves (fills new contents ws)

@@ -13,7 +13,7 @@ use Rattle.um_machine.specs.declared.pending.Pending.{Pending}
 use Rattle.um_machine.specs.declared.thread.Life.TheVariants as Life
 use Rattle.um_machine.specs.declared.thread.Thread.{Thread}
 use Rattle.um_machine.specs.Order.{Steps}
-use Rattle.um_machine.specs.State.{State, nobody, no_rows, thread_at, object_at, with_thread, is_living}
+use Rattle.um_machine.specs.State.{State, nobody, no_rows, thread_at, with_thread, is_living}
 use Rattle.um_machine.specs.Table.{after, at_steps, newborn, next_doom}
 use Rattle.um_invariants.specs.Lines.{stands}
 use Rattle.um_invariants.proofs.Claims.{claims, IsReal}
@@ -22,6 +22,7 @@ use Rattle.um_invariants.proofs.Facts.{is_not, itself, differs, none_checked}
 use Rattle.um_invariants.proofs.SitedImages.{index_small}
 use Rattle.um_invariants.proofs.Turns.{IsKnown}
 use Rattle.um_invariants.proofs.ThreadCounts.{equal_or_not}
+use Rattle.um_invariants.proofs.ThreadCells.{cell}
 use Rattle.um_invariants.proofs.ThreadWaits.{times}
 use Rattle.um_invariants.proofs.ThreadPairs.{pass-dropped}
 use Rattle.um_invariants.proofs.ThreadSteps.{plain-dooms}
@@ -86,7 +87,7 @@ start-made s t x who script stack priority mode rest kept known lawful offered =
     let s2 = with_thread s u0 child in
     let other : t ≢ u0 = λ same. (let none : (thread_at s t).pending ≡ [] = subst (λ (n : ℕ). (thread_at s n).pending ≡ []) (sym same) free.rests in
     let claim_none : claims s.image u0 [] ≡ true = subst (λ (steps : Steps). claims s.image u0 steps ≡ true) none claim in cc) in
-    let awake : (y : ℕ) → times u0 (object_at s y).waiters ≡ 0 = λ y. elim (equal_or_not (times u0 (object_at s y).waiters) 0) [
+    let awake : (y : ℕ) → times u0 (cell s y) ≡ 0 = λ y. elim (equal_or_not (times u0 (cell s y)) 0) [
       | inl none ↦ none
       | inr some ↦ absurd (let waits = kept.waits y u0 (omega (arith, some)) in let bad : is_resume [] ≡ true = subst (λ (steps : Steps). is_resume steps ≡ true) free.rests waits.0 in cc)
     ] in
@@ -126,7 +127,7 @@ doomed-kept s from kept =
       many = length-set s.threads from me ∙ kept.many;
       orderly = λ u. at_set (λ n (other : Thread). IsOrderly other) s.threads from u me nobody (record { steps = was.steps; from = was.from; told = was.told }) (kept.orderly u);
       due = λ u. at_set (λ n (other : Thread). AreDue s.image s.pairs n other) s.threads from u me nobody (kept.due from) (kept.due u);
-      waits = λ x u h. at_set (λ n (other : Thread). 1 ≤ times n (object_at s x).waiters → (is_resume other.pending ≡ true) × (other.told ≡ None)) s.threads from u me nobody (kept.waits x from) (kept.waits x u) h;
+      waits = λ x u h. at_set (λ n (other : Thread). 1 ≤ times n (cell s x) → (is_resume other.pending ≡ true) × (other.told ≡ None)) s.threads from u me nobody (kept.waits x from) (kept.waits x u) h;
       once = kept.once;
       sole = kept.sole;
     }

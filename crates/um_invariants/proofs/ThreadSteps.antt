@@ -10,10 +10,12 @@ use Rattle.um_base.specs.declared.names.Kind.{Kind}
 use Rattle.um_base.specs.declared.names.Mode.{Mode}
 use Rattle.um_base.specs.declared.names.Policy.{Policy}
 use Rattle.um_base.specs.declared.names.ThreadIx.{ThreadIx}
+use Rattle.um_base.specs.declared.names.Timeout.{Timeout}
 use Rattle.um_base.specs.Lawful.{is_within}
+use Rattle.um_base.specs.Places.{thread_of_addr}
 use Rattle.um_machine.specs.declared.pending.Pending.{Pending}
 use Rattle.um_machine.specs.declared.thread.Thread.{Thread}
-use Rattle.um_machine.specs.Order.{Steps, to_addr, privileged, creates, steps_of, work, answer_zero, answer_error, buffered, end_steps, fatal_steps}
+use Rattle.um_machine.specs.Order.{Steps, to_addr, privileged, creates, steps_of, work, answer_void, answer_zero, answer_error, arms, buffered, end_steps, fatal_steps}
 use Rattle.um_machine.specs.State.{value_of}
 use Rattle.um_machine.specs.Goes.{Way, steps_by}
 use Rattle.um_machine.proofs.WayLemmas.{HoldsOfWays, way-left}
@@ -40,6 +42,15 @@ plain-creates : (mode : Mode) (who stack a b script : ℕ) (priority : ℤ) (opt
 plain-creates mode who stack a b script priority options (Some cause) = refl
 plain-creates mode who stack a b script priority options None = plain-inherit options.inherit _ _ _ _ _ _ _ refl
 
+plain-arms : (timeout : Timeout) (steps : Steps) → are_plain steps ≡ true → are_plain (arms timeout steps) ≡ true
+plain-arms Timeout.NoWait steps h = h
+plain-arms Timeout.Forever steps h = h
+plain-arms (Timeout.Ticks n) steps h = h
+
+plain-aborts : (itself : Bool) → are_plain (if itself then Pending.Killed ∷ [] else answer_void) ≡ true
+plain-aborts true = refl
+plain-aborts false = refl
+
 pub plain-steps : (image : Image) (t : ℕ) (me : Thread) (instr : Instr) → are_plain (steps_of image t me instr) ≡ true
 plain-steps image t me (Instr.DomainInit domain parts) = plain-privileged me.mode _ refl
 plain-steps image t me (Instr.DomainAdd domain part) = plain-privileged me.mode _ refl
@@ -62,12 +73,22 @@ plain-steps image t me (Instr.StackInit object entries) =
 plain-steps image t me (Instr.PipeInit object size) =
     let most = value_of me.registers size in
     plain-buffered (value_of me.registers object) Kind.Pipe (is_within 1 256 most) most (Ask.PipeInit most (unwrap_or me.pool 0))
+plain-steps image t me (Instr.SemTake object timeout) = plain-arms timeout _ refl
+plain-steps image t me (Instr.MutexLock object timeout) = plain-arms timeout _ refl
+plain-steps image t me (Instr.MsgqPut object addr timeout) = plain-arms timeout _ refl
+plain-steps image t me (Instr.MsgqGet object addr timeout) = plain-arms timeout _ refl
+plain-steps image t me (Instr.StackPop object addr timeout) = plain-arms timeout _ refl
+plain-steps image t me (Instr.PipeWrite object addr length timeout) = plain-arms timeout _ refl
+plain-steps image t me (Instr.PipeRead object addr length timeout) = plain-arms timeout _ refl
+plain-steps image t me (Instr.Join thread timeout) = plain-arms timeout _ refl
+plain-steps image t me (Instr.FutexWait addr value timeout) = plain-arms timeout _ refl
+plain-steps image t me (Instr.Abort thread) = plain-aborts (thread_of_addr image (value_of me.registers thread) == t)
 plain-steps image t me _ = refl
 
 -- What is left.
 
 plain-ways : HoldsOfWays (λ steps. are_plain steps ≡ true)
-plain-ways = record { call = (λ a left h. h, λ left h. h, λ a left h. h); replies = λ reply. refl; fails = λ reason cause. (refl, λ size. refl, λ a. refl) }
+plain-ways = record { call = (λ a left h. h, λ left h. h, λ a left h. h); runs_to = λ a before deadline left h. h; replies = λ reply. refl; fails = λ reason cause. (refl, λ size. refl, λ a. refl) }
 
 pub plain-way : (left : Steps) (way : Way) → are_plain left ≡ true → are_plain (steps_by left way) ≡ true
 plain-way = way-left (λ steps. are_plain steps ≡ true) plain-ways

@@ -42,7 +42,7 @@ pub record IsServed (ws : List Waiter) (t : ℕ) (w : Acted) : Type 0 where
 abbrev pub AreApart : List Waiter → Type 0
 AreApart ws = (u : ℕ) → times u ws ≤ 1
 
-times-without : (t : ℕ) (ws : List Waiter) → times t (without t ws) ≡ 0
+pub times-without : (t : ℕ) (ws : List Waiter) → times t (without t ws) ≡ 0
 times-without t [] = refl
 times-without t (w ∷ ws) =
     elim (w.thread.0 == t) as (λ b. (w.thread.0 == t) ≡ b → times t (cond (not b) (w ∷ without t ws) (without t ws)) ≡ 0) [
@@ -91,9 +91,12 @@ served-none ws t w apart e f = record {
   apart = λ u. rw f (apart u);
 }
 
-pub served-blocks : (ws : List Waiter) (who : Waiter) (contents : Contents) (timeout : Timeout) (e : Errno) → AreApart ws → IsServed ws who.thread.0 (blocks contents ws who timeout e)
-served-blocks ws who contents Timeout.NoWait e apart = served-none ws who.thread.0 (blocks contents ws who Timeout.NoWait e) apart refl refl
-served-blocks ws who contents Timeout.Forever e apart =
+-- The caller waits, behind all others.
+abbrev pub waited : Contents → List Waiter → Waiter → Acted
+waited contents ws who = record { contents = contents; waiters = without who.thread.0 ws ++ who ∷ []; answer = Answer.Wait; taken = []; woken = [] }
+
+pub served-waits : (ws : List Waiter) (who : Waiter) (contents : Contents) → AreApart ws → IsServed ws who.thread.0 (waited contents ws who)
+served-waits ws who contents apart =
     let t = who.thread.0 in
     let both : (u : ℕ) → times u (without t ws ++ who ∷ []) ≡ times u (without t ws) + (one_if (t == u) + 0) = λ u. count-append (is_of u) (without t ws) (who ∷ []) in
     let fewer : (u : ℕ) → times u (without t ws) ≤ times u ws = λ u. count-filter (is_of u) (λ (w : Waiter). not (w.thread.0 == t)) ws in
@@ -109,6 +112,11 @@ served-blocks ws who contents Timeout.Forever e apart =
         | inr other ↦ (let apart_from : (t == u) ≡ false = differs t u (λ e. other (sym e)) in let some = both u in let less = fewer u in let none : one_if (t == u) ≡ 0 = rw apart_from refl in let once = apart u in omega (arith, some, less, none, once))
       ];
     }
+
+pub served-blocks : (ws : List Waiter) (who : Waiter) (contents : Contents) (timeout : Timeout) (e : Errno) → AreApart ws → IsServed ws who.thread.0 (blocks contents ws who timeout e)
+served-blocks ws who contents Timeout.NoWait e apart = served-none ws who.thread.0 (blocks contents ws who Timeout.NoWait e) apart refl refl
+served-blocks ws who contents Timeout.Forever e apart = served-waits ws who contents apart
+served-blocks ws who contents (Timeout.Ticks n) e apart = served-waits ws who contents apart
 
 -- One is woken, who was first.
 wakings-numbers : (u : ℕ) (woken : List (ThreadIx × Told)) → wakings u woken ≡ count (λ x. x == u) (numbers woken)
@@ -142,35 +150,35 @@ served-one ws t first w apart there e f =
         ] refl h
 
 -- All of some are woken.
-told-times : (e : Errno) (vs : List Waiter) (u : ℕ) → stands (numbers (map (λ (w : Waiter). told w (Reply.Fail e) []) vs)) u ≡ true → 1 ≤ times u vs
-told-times e [] u h = cc
-told-times e (v ∷ vs) u h =
+pub told-times : (reply : Reply) (vs : List Waiter) (u : ℕ) → stands (numbers (map (λ (w : Waiter). told w reply []) vs)) u ≡ true → 1 ≤ times u vs
+told-times reply [] u h = cc
+told-times reply (v ∷ vs) u h =
     elim (cases_Bool (u == v.thread.0)) [
       | inl here ↦ (let same : u ≡ v.thread.0 = is_equal u v.thread.0 here in subst (λ (n : ℕ). 1 ≤ times n (v ∷ vs)) (sym same) (times-first v vs))
-      | inr later ↦ (let rest = told-times e vs u (subst (λ (b : Bool). (b || stands (numbers (map (λ (w : Waiter). told w (Reply.Fail e) []) vs)) u) ≡ true) later h) in omega (arith, rest))
+      | inr later ↦ (let rest = told-times reply vs u (subst (λ (b : Bool). (b || stands (numbers (map (λ (w : Waiter). told w reply []) vs)) u) ≡ true) later h) in omega (arith, rest))
     ]
 
-told-wakings : (e : Errno) (vs : List Waiter) (u : ℕ) → wakings u (map (λ (w : Waiter). told w (Reply.Fail e) []) vs) ≡ times u vs
-told-wakings e [] u = refl
-told-wakings e (v ∷ vs) u = ap (λ n. one_if (v.thread.0 == u) + n) (told-wakings e vs u)
+pub told-wakings : (reply : Reply) (vs : List Waiter) (u : ℕ) → wakings u (map (λ (w : Waiter). told w reply []) vs) ≡ times u vs
+told-wakings reply [] u = refl
+told-wakings reply (v ∷ vs) u = ap (λ n. one_if (v.thread.0 == u) + n) (told-wakings reply vs u)
 
 pub served-all : (ws : List Waiter) (t : ℕ) (e : Errno) (w : Acted) → AreApart ws → w.woken ≡ all_told e ws → w.waiters ≡ [] → IsServed ws t w
 served-all ws t e w apart f g = record {
-  woken = λ u h. (let some = told-times e (in_order ws) u (subst (λ (l : List (ThreadIx × Told)). stands (numbers l) u ≡ true) f h) in let same = times-order u ws in omega (arith, some, same));
-  often = λ u. (let all = ap (wakings u) f ∙ told-wakings e (in_order ws) u in let same = times-order u ws in omega (arith, all, same));
+  woken = λ u h. (let some = told-times (Reply.Fail e) (in_order ws) u (subst (λ (l : List (ThreadIx × Told)). stands (numbers l) u ≡ true) f h) in let same = times-order u ws in omega (arith, some, same));
+  often = λ u. (let all = ap (wakings u) f ∙ told-wakings (Reply.Fail e) (in_order ws) u in let same = times-order u ws in omega (arith, all, same));
   left = λ u h. absurd (let none : 1 ≤ times u [] = subst (λ (l : List Waiter). 1 ≤ times u l) g h in omega (arith, none));
   apart = λ u. rw g (omega arith);
 }
 
--- of those who wait, the ones that a test finds are woken
-pub served-some : (ws : List Waiter) (t : ℕ) (e : Errno) (p : Waiter → Bool) (w : Acted) → AreApart ws → w.woken ≡ all_told e (filter p ws) → w.waiters ≡ filter (λ v. not (p v)) ws → IsServed ws t w
-served-some ws t e p w apart f g =
+-- of those who wait, the ones that a test finds are woken with this reply
+pub served-some : (ws : List Waiter) (t : ℕ) (reply : Reply) (p : Waiter → Bool) (w : Acted) → AreApart ws → w.woken ≡ map (λ (v : Waiter). told v reply []) (in_order (filter p ws)) → w.waiters ≡ filter (λ v. not (p v)) ws → IsServed ws t w
+served-some ws t reply p w apart f g =
     let found : (u : ℕ) → stands (numbers w.woken) u ≡ true → 1 ≤ times u (filter p ws) = λ u h. (
-    let some = told-times e (in_order (filter p ws)) u (subst (λ (l : List (ThreadIx × Told)). stands (numbers l) u ≡ true) f h) in let same = times-order u (filter p ws) in omega (arith, some, same)) in
+    let some = told-times reply (in_order (filter p ws)) u (subst (λ (l : List (ThreadIx × Told)). stands (numbers l) u ≡ true) f h) in let same = times-order u (filter p ws) in omega (arith, some, same)) in
     let parts : (u : ℕ) → times u (filter p ws) + times u (filter (λ v. not (p v)) ws) ≡ times u ws = λ u. count-split (is_of u) p ws in
     record {
       woken = λ u h. (let some = found u h in let both = parts u in omega (arith, some, both));
-      often = λ u. (let all = ap (wakings u) f ∙ told-wakings e (in_order (filter p ws)) u in let same = times-order u (filter p ws) in let both = parts u in omega (arith, all, same, both));
+      often = λ u. (let all = ap (wakings u) f ∙ told-wakings reply (in_order (filter p ws)) u in let same = times-order u (filter p ws) in let both = parts u in omega (arith, all, same, both));
       left = λ u h. (let there : 1 ≤ times u (filter (λ v. not (p v)) ws) = subst (λ (l : List Waiter). 1 ≤ times u l) g h in let both = parts u in let once = apart u in
           inl (omega (arith, there, both), is_not (stands (numbers w.woken) u) (λ yes. (let some = found u yes in omega (arith, some, there, both, once)))));
       apart = λ u. rw g (let both = parts u in let once = apart u in omega (arith, both, once));

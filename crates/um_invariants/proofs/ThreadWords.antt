@@ -8,10 +8,12 @@ use Rattle.um_base.specs.Places.{own_row}
 use Rattle.um_machine.specs.declared.pending.Pending.{Pending}
 use Rattle.um_machine.specs.declared.thread.Thread.{Thread}
 use Rattle.um_machine.specs.Order.{Steps}
-use Rattle.um_machine.specs.State.{State, thread_at, object_at, is_living}
+use Rattle.um_machine.specs.Run.{is_tending}
+use Rattle.um_machine.specs.State.{State, thread_at, is_living}
 use Rattle.um_invariants.specs.Lines.{stands}
 use Rattle.um_invariants.specs.Ready.{is_ready_step}
 use Rattle.um_invariants.proofs.Claims.{claims}
+use Rattle.um_invariants.proofs.ThreadCells.{cell}
 use Rattle.um_invariants.proofs.ThreadWaits.{times}
 
 -- What a thread may do.
@@ -26,7 +28,7 @@ is_resting me = is_living me.life && length me.pending == 0
 abbrev pub stands_still : Thread → Bool
 stands_still me = me.doomed && length me.pending == 0
 
--- it can make a step by itself: it goes on, or begins its line
+-- it can make a step by itself, unless it is suspended: it goes on, or begins its line, or ends
 abbrev pub may_step : Thread → Bool
 may_step me = is_on me || (is_resting me && not me.doomed)
 
@@ -40,6 +42,11 @@ pub record IsFramed (x : Thread) (added : Bool) (y : Thread) : Type 0 where
   pub goes : may_step y ≡ true → (may_step x ≡ true) ⊎ (added ≡ true)
   pub stays : may_stand x ≡ true → may_stand y ≡ true
   pub comes : added ≡ true → may_stand y ≡ true
+
+-- whether a step leaves its own thread as it is: it tends, or tells those who wait for the thread's end
+abbrev pub is_beside : Pending → Bool
+is_beside Pending.Left = true
+is_beside p = is_tending p
 
 -- The steps that are left.
 
@@ -99,10 +106,10 @@ pub record AreKept (s : State) : Type 0 where
   pub many : length s.threads ≡ THREADS
   pub orderly : (u : ℕ) → IsOrderly (thread_at s u)
   pub due : (u : ℕ) → AreDue s.image s.pairs u (thread_at s u)
-  -- who waits on an object is to resume and isn't told yet, and waits on that object alone
-  pub waits : (x u : ℕ) → 1 ≤ times u (object_at s x).waiters → (is_resume (thread_at s u).pending ≡ true) × ((thread_at s u).told ≡ None)
-  pub once : (x u : ℕ) → times u (object_at s x).waiters ≤ 1
-  pub sole : (x y u : ℕ) → 1 ≤ times u (object_at s x).waiters → 1 ≤ times u (object_at s y).waiters → x ≡ y
+  -- who waits in a cell is to resume and isn't told yet, and waits in that cell alone
+  pub waits : (x u : ℕ) → 1 ≤ times u (cell s x) → (is_resume (thread_at s u).pending ≡ true) × ((thread_at s u).told ≡ None)
+  pub once : (x u : ℕ) → times u (cell s x) ≤ 1
+  pub sole : (x y u : ℕ) → 1 ≤ times u (cell s x) → 1 ≤ times u (cell s y) → x ≡ y
 
 -- a step of a thread keeps that, and these are started or woken by it
 pub record IsMade (s : State) (t : ℕ) (line : List ℕ) (s2 : State) : Type 0 where
@@ -125,7 +132,7 @@ pub record IsBase (s s1 : State) : Type 0 where
   pub many : length s1.threads ≡ length s.threads
   pub alike : (u : ℕ) → IsAlike (thread_at s u) (thread_at s1 u)
   pub due : (u : ℕ) → AreDue s1.image s1.pairs u (thread_at s1 u)
-  pub waiters : (x u : ℕ) → times u (object_at s1 x).waiters ≤ times u (object_at s x).waiters
+  pub waiters : (x u : ℕ) → times u (cell s1 x) ≤ times u (cell s x)
 
 -- a thread makes one of its steps, or one behind that it skips
 pub record IsOffered (s : State) (t : ℕ) (p : Pending) (rest : Steps) : Type 0 where
@@ -133,6 +140,6 @@ pub record IsOffered (s : State) (t : ℕ) (p : Pending) (rest : Steps) : Type 0
   pub behind : are_plain rest ≡ true
   pub from : DueFrom (p ∷ rest) (thread_at s t).due
   pub told : is_resume (p ∷ rest) ≡ false → (thread_at s t).told ≡ None
-  pub apart : (x : ℕ) → times t (object_at s x).waiters ≡ 0
+  pub apart : (x : ℕ) → times t (cell s x) ≡ 0
   pub claim : (w : ℕ) → claims s.image w (p ∷ rest) ≡ true → claims s.image w (thread_at s t).pending ≡ true
   pub inside : t < length s.threads

@@ -2,7 +2,7 @@
 use Rattle.um_invariants.proofs.Claims.{claims, Shaped, Follows, Fits}
 use Rattle.um_invariants.specs.Acts.{EndsCall}
 use Rattle.um_base.specs.declared.names.Mode.{Mode}
-use Rattle.std.proofs.Common.{◌≡◌, inl, inr, ℕ, ◌+◌, ◌<◌, Bool, true, false, not, ◌&&◌, List, [], ◌∷◌, length, refl, sym, ap, subst, ◌∙◌, Option, Some, None, unwrap_or, slice_index_or, slice_set, if◌then◌else◌, arith, nat_lt}
+use Rattle.std.proofs.Common.{◌≡◌, inl, inr, ℕ, ◌+◌, ◌<◌, Bool, true, false, not, ◌&&◌, ◌||◌, ◌==◌, List, [], ◌∷◌, length, refl, sym, ap, subst, ◌∙◌, Option, Some, None, unwrap_or, slice_index_or, slice_set, if◌then◌else◌, arith, nat_lt}
 use Rattle.std.specs.List.{list_all}
 use Rattle.std.proofs.lemmas.Bool.{true≢false}
 use Rattle.std.proofs.lemmas.List.{get_or-set_same}
@@ -10,9 +10,10 @@ use Rattle.um_base.specs.declared.act.Act.{Act}
 use Rattle.um_base.specs.declared.act.Answer.{Answer}
 use Rattle.um_base.specs.declared.act.Found.{Found}
 use Rattle.um_base.specs.declared.ask.Ask.{Ask}
+use Rattle.um_base.specs.declared.ask.Waiter.{Waiter}
 use Rattle.um_base.specs.declared.image.Image.{Image}
 use Rattle.um_base.specs.declared.instr.Instr.{Instr}
-use Rattle.um_base.specs.declared.limits.TheConstants.{ROWS, THREADS}
+use Rattle.um_base.specs.declared.limits.TheConstants.{FUTEX_CELL, JOIN_CELL, ROWS, THREADS}
 use Rattle.um_base.specs.declared.names.Addr.{Addr}
 use Rattle.um_base.specs.declared.names.Errno.{Errno}
 use Rattle.um_base.specs.declared.names.Kind.{Kind}
@@ -24,10 +25,10 @@ use Rattle.um_machine.specs.declared.pending.Refusal.{Refusal}
 use Rattle.um_machine.specs.declared.thread.Thread.{Thread}
 use Rattle.um_machine.specs.Objects.{verdict, verdict_at, has_kind, is_live}
 use Rattle.um_machine.specs.Memory.{with_bytes}
-use Rattle.um_machine.specs.Order.{Steps, steps_of}
-use Rattle.um_machine.specs.State.{State, no_rows, thread_at, object_at, with_thread}
-use Rattle.um_machine.specs.Goes.{Change, Next, Way, at_steps, changed, checked_way, copied, error_way, gone, held, next_doom, steps_by, text_way, told_way, went, without_copy, work_way}
-use Rattle.um_machine.specs.Writes.{Edit, Effect, Effects, edited, effect, wrote}
+use Rattle.um_machine.specs.Order.{Steps, steps_of, to_deadline}
+use Rattle.um_machine.specs.State.{State, no_rows, thread_at, object_at, with_thread, with_waiters}
+use Rattle.um_machine.specs.Goes.{Change, Next, Way, asked_way, at_steps, changed, checked_way, copied, error_way, gone, held, next_doom, steps_by, text_way, told_way, went, without_copy, work_way}
+use Rattle.um_machine.specs.Writes.{Edit, Effect, Effects, Flag, edited, effect, flagged, wrote}
 use Rattle.um_machine.specs.Table.{row_of}
 use Rattle.um_machine.proofs.AfterLemmas.{bytes-leave}
 use Rattle.um_machine.proofs.EffectLemmas.{all-wrote}
@@ -42,11 +43,16 @@ pub record IsKnown (c : Core) : Type 0 where
   pub reached : IsReached c
   pub claimed : IsClaimed c
 
--- what a step may rely on: it is the next one of guarded ones, or a birth, or cleaning
+-- what a step may rely on: it is the next one of guarded ones, or a birth, or one that isn't of its thread's instruction
 abbrev pub IsReady : Core → ℕ → Pending → Steps → Type 0
 IsReady c t (Pending.Born a) rest = ((call_at c t).pending ≡ Pending.Born a ∷ rest) × Follows c t rest
 IsReady c t (Pending.CleanPair who) rest = Unit {0}
 IsReady c t Pending.Recycle rest = Unit {0}
+IsReady c t Pending.Left rest = Unit {0}
+IsReady c t Pending.Tick rest = Unit {0}
+IsReady c t (Pending.TimeOut who) rest = Unit {0}
+IsReady c t Pending.Expire rest = Unit {0}
+IsReady c t (Pending.Cut who) rest = Unit {0}
 IsReady c t p rest = Fits c t (p ∷ rest)
 
 pub mine : (s : State) (t : ℕ) → rest_of (call_of (thread_at s t)) ≡ rest_of (call_at (core_of s) t)
@@ -134,6 +140,10 @@ even-error mode (Ask.StackInit most pool) e = refl
 even-error mode (Ask.PipeInit size pool) e = refl
 even-error mode ask e = refl
 
+pub even-asked : (answer : Answer) → is_even (asked_way answer) ≡ true
+even-asked Answer.Wait = refl
+even-asked (Answer.Now reply) = refl
+
 pub even-work : (mode : Mode) (ask : Ask) (answer : Answer) → is_even (work_way mode ask answer) ≡ true
 even-work mode ask Answer.Wait = refl
 even-work mode ask (Answer.Now (Reply.Fail e)) = even-error mode ask e
@@ -149,6 +159,12 @@ fits_way c t left Way.skips_copy h f = behind left f
     behind (p ∷ left) f = f
 fits_way c t left Way.waits h f = f
 fits_way c t left (Way.bears a) h f = cc
+fits_way c t left (Way.runs_to deadline) h f = ahead left f
+  where
+    ahead : (left : Steps) → Fits c t left → Fits c t (to_deadline deadline left)
+    ahead [] f = f
+    ahead (Pending.Work a (Ask.TimerStart before) ∷ left) f = f
+    ahead (p ∷ left) f = f
 fits_way c t left (Way.replies reply) h f = (tt, (refl, (λ w g. cc), f.1.2))
 fits_way c t left (Way.fails reason cause) h f = (tt, (tt, (λ w g. cc), f.1.2))
 fits_way c t left (Way.gives_back size reason cause) h f = (tt, (tt, (λ w g. cc), f.1.2))
@@ -209,6 +225,7 @@ turn-went s t left next h sited f = turn s t (gone left s t next (thread_at s t)
 -- a write that changes no call, status, mark, kind and pair
 abbrev pub is_aside : Effect → Bool
 is_aside (Effect.starts who thread) = false
+is_aside (Effect.cuts who) = false
 is_aside (Effect.pair who x there) = false
 is_aside (Effect.object x (Edit.inits init)) = false
 is_aside (Effect.object x (Edit.becomes status)) = false
@@ -226,10 +243,25 @@ core-edited s x edit h = core-kept s x (edited edit (object_at s x)) refl
 pub core-bytes : (s : State) (a : ℕ) (bytes : List ℕ) → core_of (with_bytes s a bytes) ≡ core_of s
 core-bytes = bytes-leave core_of (λ s b. refl) (λ s b. refl)
 
+pub core-waiters : (s : State) (x : ℕ) (ws : List Waiter) → core_of (with_waiters s x ws) ≡ core_of s
+core-waiters s x ws =
+    let o = record (object_at s x) { waiters = ws } in
+    elim (x == JOIN_CELL || x == FUTEX_CELL) as (λ b. core_of (record s { objects = if b then s.objects else slice_set s.objects x o }) ≡ core_of s) [
+      | true ↦ refl
+      | false ↦ core-kept s x o refl
+    ]
+
+core-flagged : (s : State) (who : ℕ) (flag : Flag) → core_of (with_thread s who (flagged flag (thread_at s who))) ≡ core_of s
+core-flagged s who Flag.aborted = core-same s who (flagged Flag.aborted (thread_at s who)) refl
+core-flagged s who (Flag.suspended on) = core-same s who (flagged (Flag.suspended on) (thread_at s who)) refl
+
 core-effect : (c : Core) (e : Effect) (s : State) → is_aside e ≡ true → core_of s ≡ c → core_of (effect e s) ≡ c
 core-effect c (Effect.wakes woken) s h was = core-woken woken s ∙ was
 core-effect c (Effect.moves who d) s h was = core-same s who (record (thread_at s who) { domain = d }) refl ∙ was
 core-effect c (Effect.dooms who) s h was = core-same s who (record (thread_at s who) { doomed = true }) refl ∙ was
+core-effect c (Effect.flags who flag) s h was = core-flagged s who flag ∙ was
+core-effect c (Effect.cuts who) s h was = absurd (true≢false (sym h))
+core-effect c (Effect.waiters x ws) s h was = core-waiters s x ws ∙ was
 core-effect c (Effect.starts who thread) s h was = absurd (true≢false (sym h))
 core-effect c (Effect.pair who x there) s h was = absurd (true≢false (sym h))
 core-effect c (Effect.object x edit) s h was = core-edited s x edit h ∙ was
@@ -239,7 +271,7 @@ core-effect c e s h was = was
 abbrev pub AreAside : Effects → Type 0
 AreAside ws = list_all (λ (w : Bool × Effect). is_aside w.1) ws ≡ true
 
-core-wrote : (s : State) (ws : Effects) → AreAside ws → core_of (wrote ws s) ≡ core_of s
+pub core-wrote : (s : State) (ws : Effects) → AreAside ws → core_of (wrote ws s) ≡ core_of s
 core-wrote s ws h = all-wrote (λ (u : State). core_of u ≡ core_of s) (λ e. is_aside e ≡ true) (core-effect (core_of s)) ws s (each-of is_aside (λ e. is_aside e ≡ true) (λ e aside. aside) ws h) refl
 
 -- a step that writes nothing else, and goes on so, is a turn
@@ -255,6 +287,8 @@ fits_refusal c t mode left Refusal.Fails e keeps = (tt, (tt, (λ w h. cc), keeps
 fits_refusal c t Mode.User left Refusal.FailsUser e keeps = (tt, (tt, (λ w h. cc), keeps))
 fits_refusal c t Mode.Supervisor left Refusal.FailsUser e keeps = (tt, (refl, (λ w h. cc), keeps))
 fits_refusal c t mode left (Refusal.Answers reply) e keeps = (tt, (refl, (λ w h. cc), keeps))
+fits_refusal c t mode left (Refusal.AnswersUninit reply) Errno.EINVAL keeps = (tt, (refl, (λ w h. cc), keeps))
+fits_refusal c t mode left (Refusal.AnswersUninit reply) e keeps = (tt, (tt, (λ w h. cc), keeps))
 
 pub check_moves : (s : State) (t : ℕ) (a : Addr) (kind : Option Kind) (want : Want) (refusal : Refusal) (rest : Steps) → IsKnown (core_of s)
     → IsReady (core_of s) t (Pending.Check a kind want refusal) rest → (v : Option Errno) → verdict s t a.0 kind want ≡ v

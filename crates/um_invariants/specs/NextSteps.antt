@@ -1,20 +1,25 @@
 -- The step that a thread makes next, and the row that this takes.
-use Rattle.std.specs.Prelude.{◌≡◌, ◌⊎◌, ℕ, ◌<◌, Bool, true, false, ◌&&◌, if◌then◌else◌, drop, Option, Some, None, slice_get}
+use Rattle.std.specs.Prelude.{◌≡◌, ◌⊎◌, ℕ, ◌<◌, Bool, true, false, ◌&&◌, not, IsTrue, if◌then◌else◌, drop, Option, Some, None, slice_get}
 use Rattle.um_base.specs.declared.act.Act.{Act}
 use Rattle.um_base.specs.declared.instr.Instr.{Instr}
 use Rattle.um_machine.specs.declared.pending.Pending.{Pending}
-use Rattle.um_machine.specs.Run.{ChoosesDue, MayChoose, may_go, none_due}
+use Rattle.um_machine.specs.Joins.{is_ending}
+use Rattle.um_machine.specs.Run.{ChoosesDue, MayChoose, may_go, must_stop, none_due}
 use Rattle.um_machine.specs.State.{State, instruction_at, is_living, thread_at}
 use Rattle.um_machine.specs.Table.{act_of, after}
 
--- what a thread at rest does next, by the instruction at its place: it begins it, or exits where there is none
+-- what a thread at rest does next, by the instruction at its place: it begins it, or exits where there is none. One that is aborted ends
 abbrev pub line_step : Option Instr → Pending
 line_step (Some instr) = Pending.Begin
 line_step None = Pending.Exit
 
 abbrev pub rest_step : State → ℕ → Option Pending
 rest_step s t =
-    let me = thread_at s t in if is_living me.life && may_go me then Some (line_step (instruction_at s.image me.place)) else None
+    let me = thread_at s t in
+    if not (is_living me.life) then None
+    else if may_go me then Some (line_step (instruction_at s.image me.place))
+    else if must_stop me then Some Pending.Killed
+    else None
 
 -- the next step of a thread: of its instruction, or at rest
 abbrev pub first_or : Option Pending → Option Pending → Option Pending
@@ -52,10 +57,12 @@ NoFirst s t = (step : Pending) → first_step s t ≡ Some step → TakesNone s 
 abbrev pub NoSecond : State → ℕ → Type 0
 NoSecond s t = (step : Pending) → second_step s t ≡ Some step → TakesNone s t step
 
--- a thread makes its next step, or, if that can take no row, the one after it. `taken` of its pending steps are over then
+-- a thread makes its next step, or, if that can take no row, the one after it; if neither can, one that ends tells those who wait for it.
+-- `taken` of its pending steps are over then
 abbrev pub IsNextStep : State → ℕ → Pending → ℕ → Type 0
 IsNextStep s t step taken =
     ((taken ≡ 1) × (first_step s t ≡ Some step)) ⊎ ((taken ≡ 2) × (second_step s t ≡ Some step) × NoFirst s t)
+    ⊎ ((taken ≡ 0) × (step ≡ Pending.Left) × IsTrue (is_ending (thread_at s t)) × NoFirst s t × NoSecond s t)
 
 -- What a thread says and leaves by the step that it makes next, with the least row that this may take.
 pub record IsNext (s : State) (t : ℕ) (act : Act) (s2 : State) : Type 0 where

@@ -1,7 +1,12 @@
 -- Accesses and verdicts: what a step says was allowed, or is the verdict.
-use Rattle.std.proofs.Common.{◌≡◌, ℕ, zero, suc, ◌+◌, ◌≤◌, Bool, true, false, refl, sym, subst, arith, if◌then◌else◌, length, slice_index}
+use Rattle.std.proofs.Common.{◌≡◌, ℕ, zero, suc, ◌+◌, ◌≤◌, Bool, true, false, not, List, Some, None, refl, sym, subst, arith, if◌then◌else◌, length, slice_index}
 use Rattle.std.specs.Prelude.{IsTrue, ◌==◌}
 use Rattle.um_base.specs.declared.act.Act.{Act}
+use Rattle.um_base.specs.declared.act.Answer.{Answer}
+use Rattle.um_base.specs.declared.names.Errno.{Errno}
+use Rattle.um_base.specs.declared.names.Reply.{Reply}
+use Rattle.um_base.specs.declared.names.ThreadIx.{ThreadIx}
+use Rattle.um_base.specs.declared.names.Timeout.{Timeout}
 use Rattle.um_base.specs.declared.act.Event.{Event}
 use Rattle.um_base.specs.declared.act.Found.{Found}
 use Rattle.um_base.specs.declared.names.Access.TheVariants as Access
@@ -10,7 +15,8 @@ use Rattle.um_machine.specs.declared.pending.Pending.{Pending}
 use Rattle.um_machine.specs.State.{State, thread_at}
 use Rattle.um_machine.specs.Memory.{allowed, string_from, string_read, bytes_at, le_value}
 use Rattle.um_machine.specs.Run.{Step}
-use Rattle.um_machine.specs.Table.{act_of, amount_of}
+use Rattle.um_machine.specs.Futexes.{is_futex, may_wait as wait_or_not, futex_woken, wake_answer}
+use Rattle.um_machine.specs.Table.{act_of, amount_of, replies_of}
 use Rattle.um_laws.proofs.ActLemmas.{either_act}
 use Rattle.um_laws.specs.Laws.{WasReadable, Allows, WasAllowed, SaysVerdict, IsVerdict}
 
@@ -70,6 +76,22 @@ from_none s t a (Found.Length n) h = λ i le. h i (omega (arith, le))
 from_none s t a Found.Unreadable h = tt
 from_none s t a Found.TooLong h = tt
 
+-- what a call on a futex says, by whether it may read, and whether a futex is there
+wait_allowed : (s : State) (t : ℕ) (a : Addr) (value found : ℕ) (timeout : Timeout) (b there same : Bool) → allowed s t Access.Read a.0 4 ≡ b
+    → Allows s t (Act.FutexWait a value (elim (if not b then Some Errno.EACCES else if not there then Some Errno.EINVAL else None) as (λ _. Answer) [ Some e ↦ Answer.Now (Reply.Fail e) | None ↦ if same then wait_or_not timeout else Answer.Now (Reply.Fail Errno.EAGAIN) ]))
+wait_allowed s t a value found timeout false there same e = tt
+wait_allowed s t a value found timeout true false same e = e
+wait_allowed s t a value found timeout true true false e = e
+wait_allowed s t a value found Timeout.NoWait true true true e = e
+wait_allowed s t a value found Timeout.Forever true true true e = e
+wait_allowed s t a value found (Timeout.Ticks n) true true true e = e
+
+wake_allowed : (s : State) (t : ℕ) (a : Addr) (n : ℕ) (woken : List (ThreadIx × Reply)) (b there : Bool) → allowed s t Access.Read a.0 4 ≡ b
+    → Allows s t (Act.FutexWake a (wake_answer (if not b then Some Errno.EACCES else if not there then Some Errno.EINVAL else None) n) woken)
+wake_allowed s t a n woken false there e = tt
+wake_allowed s t a n woken true false e = e
+wake_allowed s t a n woken true true e = e
+
 -- what a step says was allowed
 allowed_step : (s : State) (t x : ℕ) (p : Pending) → Allows s t (act_of s t x p)
 allowed_step s t x (Pending.Load to a n) = load_allowed s t a n (le_value (bytes_at s a.0 n)) (allowed s t Access.Read a.0 n) refl
@@ -78,6 +100,10 @@ allowed_step s t x (Pending.Fetch a) = fetch_allowed s t a (allowed s t Access.E
 allowed_step s t x (Pending.CopyIn a amount) = copy_in_allowed s t a (amount_of s amount) (allowed s t Access.Read a.0 (amount_of s amount)) refl
 allowed_step s t x (Pending.CopyOut a) = copy_out_allowed s t a (length (thread_at s t).buffer) (allowed s t Access.Write a.0 (length (thread_at s t).buffer)) refl
 allowed_step s t x (Pending.CopyStr a) = from_none s t a.0 (string_read s t a.0 32) (readable_from s t 32 a.0 0)
+allowed_step s t x (Pending.FutexWait a value timeout) =
+    wait_allowed s t a value 0 timeout (allowed s t Access.Read a.0 4) (is_futex s.image a.0) (le_value (bytes_at s a.0 4) == value) refl
+allowed_step s t x (Pending.FutexWake a all) =
+    let woken = futex_woken s t a.0 all in wake_allowed s t a (length woken) (replies_of woken) (allowed s t Access.Read a.0 4) (is_futex s.image a.0) refl
 allowed_step s t x _ = tt
 
 pub was_allowed : (s s2 : State) (event : Event) → Step s event s2 → WasAllowed s event

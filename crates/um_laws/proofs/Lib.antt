@@ -7,6 +7,8 @@ mod RecycleLemmas
 mod OriginLemmas
 mod LifeLemmas
 mod HoldLemmas
+mod Faces
+mod TimeLemmas
 mod Theorems
 mod ServiceLemmas
 pub mod ObeyLemmas

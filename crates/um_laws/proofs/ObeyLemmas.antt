@@ -10,6 +10,7 @@ use Rattle.um_laws.specs.Obeys.{ObeysLaws}
 use Rattle.um_laws.proofs.AccessLemmas.{was_allowed, is_verdict}
 use Rattle.um_laws.proofs.RecycleLemmas.{is_unheld, is_of_its_creator}
 use Rattle.um_laws.proofs.ServiceLemmas.{is_in_order_of_service}
+use Rattle.um_laws.proofs.TimeLemmas.{begins_none, ticks_between, watches}
 use Rattle.um_laws.proofs.Theorems.{owned_event, marks_turn, lives_between, was_alive, holds_until}
 
 -- a run up to one of its events, and the step that it is
@@ -40,4 +41,11 @@ obeys image events s given run = record {
   holds = λ before middle after check recycle a kind want parts e calls.
       let (from, to, first, step) = stops_at image events (before ++ check ∷ middle) after recycle s run (two_parts events before middle after check recycle parts) in
       holds_until image before middle check recycle a kind want from to given first step e calls;
+  deadlines = λ before middle after arm late d who parts e f here same.
+      let (from, to, first, step) = stops_at image events (before ++ arm ∷ middle) after late s run (two_parts events before middle after arm late parts) in
+      ticks_between image before middle arm late d who from to given first step e f here same;
+  aborts = λ before middle after abort begin who script line parts e here free.
+      let (from, to, first, step) = stops_at image events (before ++ abort ∷ middle) after begin s run (two_parts events before middle after abort begin parts) in
+      begins_none image before middle abort begin who script line from to given first step e here free;
+  watches = λ before event from to stands. watches from to event stands.step;
 }

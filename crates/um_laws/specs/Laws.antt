@@ -2,6 +2,9 @@
 use Rattle.std.specs.Prelude.{◌≡◌, ◌≢◌, ℕ, ◌+◌, ◌≤◌, true, not, IsTrue}
 use Rattle.um_base.specs.Places.{addr_of, own_row}
 use Rattle.um_base.specs.declared.act.Act.{Act}
+use Rattle.um_base.specs.declared.act.Answer.{Answer}
+use Rattle.um_base.specs.declared.names.Errno.{Errno}
+use Rattle.um_base.specs.declared.names.Reply.{Reply}
 use Rattle.um_base.specs.declared.act.Event.{Event}
 use Rattle.um_base.specs.declared.act.Found.{Found}
 use Rattle.um_base.specs.declared.names.Access.TheVariants as Access
@@ -15,7 +18,7 @@ abbrev pub WasReadable : State → ℕ → ℕ → Found → Type 0
 WasReadable s t a (Found.Length n) = (i : ℕ) → i ≤ n → IsTrue (allowed s t Access.Read (a + i) 1)
 WasReadable s t a found = Unit {0}
 
--- a thread was allowed the access that an act says it made
+-- a thread was allowed the access that an act says it made; a call on a futex that isn't refused for that reads it
 abbrev pub Allows : State → ℕ → Act → Type 0
 Allows s t (Act.Load a n value) = IsTrue (allowed s t Access.Read a.0 n)
 Allows s t (Act.Store a n value) = IsTrue (allowed s t Access.Write a.0 n)
@@ -23,6 +26,10 @@ Allows s t (Act.Fetch a) = IsTrue (allowed s t Access.Exec a.0 4)
 Allows s t (Act.CopyIn a n true) = IsTrue (allowed s t Access.Read a.0 n)
 Allows s t (Act.CopyOut a n true) = IsTrue (allowed s t Access.Write a.0 n)
 Allows s t (Act.CopyStr a found) = WasReadable s t a.0 found
+Allows s t (Act.FutexWait a value (Answer.Now (Reply.Fail Errno.EACCES))) = Unit {0}
+Allows s t (Act.FutexWait a value answer) = IsTrue (allowed s t Access.Read a.0 4)
+Allows s t (Act.FutexWake a (Answer.Now (Reply.Fail Errno.EACCES)) woken) = Unit {0}
+Allows s t (Act.FutexWake a answer woken) = IsTrue (allowed s t Access.Read a.0 4)
 Allows s t act = Unit {0}
 
 abbrev pub WasAllowed : State → Event → Type 0

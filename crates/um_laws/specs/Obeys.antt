@@ -1,13 +1,15 @@
 -- The laws of one run.
-use Rattle.std.specs.Prelude.{◌≡◌, ℕ, List, [], ◌∷◌, ◌++◌, Option, None}
+use Rattle.std.specs.Prelude.{◌≡◌, ℕ, true, List, [], ◌∷◌, ◌++◌, Option, None}
 use Rattle.um_base.specs.declared.act.Act.{Act}
 use Rattle.um_base.specs.declared.act.Event.{Event}
 use Rattle.um_base.specs.declared.image.Image.{Image}
 use Rattle.um_base.specs.declared.names.Addr.{Addr}
 use Rattle.um_base.specs.declared.names.Kind.{Kind}
+use Rattle.um_base.specs.declared.names.ThreadIx.{ThreadIx}
 use Rattle.um_base.specs.declared.names.Want.{Want}
 use Rattle.um_machine.specs.Run.{IsRun, Step}
 use Rattle.um_machine.specs.State.{State}
+use Rattle.um_laws.specs.Deadlines.{is_in_time, HasTickTo, is_without_start, Watches}
 use Rattle.um_laws.specs.Holds.{IsInCall}
 use Rattle.um_laws.specs.Laws.{WasAllowed, IsVerdict, IsUnheld, IsOfItsCreator}
 use Rattle.um_laws.specs.Lives.{born, gone, recycled, marks, InTurns, IsWithoutBirth, WasBornAndGone}
@@ -46,3 +48,11 @@ pub record ObeysLaws (image : Image) (events : List Event) : Type 0 where
   -- between a check that is passed and the end of its thread's call the object isn't recycled
   pub holds : (before middle after : List Event) (check recycle : Event) (a : Addr) (kind : Option Kind) (want : Want) → events ≡ before ++ check ∷ (middle ++ recycle ∷ after)
       → check.act ≡ Act.Check a kind want None → IsInCall check.thread.0 middle → ¬ (recycle.act ≡ Act.Recycle a)
+  -- between the arming of a deadline and the timeout of the same call time comes to that deadline
+  pub deadlines : (before middle after : List Event) (arm late : Event) (d : ℕ) (who : ThreadIx) → events ≡ before ++ arm ∷ (middle ++ late ∷ after)
+      → arm.act ≡ Act.Arm d → late.act ≡ Act.TimedOut who → arm.thread ≡ who → is_in_time who.0 middle ≡ true → HasTickTo d middle
+  -- behind an abort that says ok its thread begins no line before its next start
+  pub aborts : (before middle after : List Event) (abort begin : Event) (who : ThreadIx) (script line : ℕ) → events ≡ before ++ abort ∷ (middle ++ begin ∷ after)
+      → abort.act ≡ Act.Abort who true → begin.thread ≡ who → is_without_start who.0 middle ≡ true → ¬ (begin.act ≡ Act.Begin script line)
+  -- who waits on a futex found the number there that it expected, and waits from that event on
+  pub watches : (before : List Event) (event : Event) (s s2 : State) → Stands image events before s event s2 → Watches s event.thread.0 event.act s2

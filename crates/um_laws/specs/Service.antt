@@ -1,5 +1,5 @@
 -- Whom an act on an object wakes: first by priority, and then by time (Zephyr: Kernel Services, Scheduling, Waiting).
-use Rattle.std.specs.Prelude.{◌≡◌, ℤ, Bool, false, List, [], ◌∷◌, ◌++◌, map, filter, int_lt}
+use Rattle.std.specs.Prelude.{◌≡◌, ℕ, ℤ, Bool, false, List, [], ◌∷◌, ◌++◌, map, filter, int_lt}
 use Rattle.std.specs.Ordering.{int_eq}
 use Rattle.um_base.specs.declared.act.Act.{Act}
 use Rattle.um_base.specs.declared.act.Event.{Event}
@@ -7,6 +7,10 @@ use Rattle.um_base.specs.declared.ask.Waiter.{Waiter}
 use Rattle.um_base.specs.declared.names.Reply.{Reply}
 use Rattle.um_base.specs.declared.names.ThreadIx.{ThreadIx}
 use Rattle.um_machine.specs.declared.served.Served.{Served}
+use Rattle.um_base.specs.Places.{addr_of}
+use Rattle.um_machine.specs.Futexes.{is_on}
+use Rattle.um_machine.specs.Joins.{joins}
+use Rattle.um_machine.specs.Order.{to_addr}
 use Rattle.um_machine.specs.Serving.{served}
 use Rattle.um_machine.specs.State.{State, object_at}
 use Rattle.um_machine.specs.Table.{row_of}
@@ -41,6 +45,9 @@ woken_threads woken = map (λ (p : ThreadIx × Reply). p.0) woken
 
 abbrev pub WakesFirst : State → Act → Type 0
 WakesFirst s (Act.Work a answer woken) = AreServedFirst (object_at s (row_of s a)).waiters (woken_threads woken)
+WakesFirst s (Act.Left who woken) = AreServedFirst (filter (joins who.0) s.joins) (woken_threads woken)
+WakesFirst s (Act.FutexWake a answer woken) = AreServedFirst (filter (is_on a.0) s.futexes) (woken_threads woken)
+WakesFirst s (Act.Expire a woken) = (x : ℕ) × (a ≡ to_addr (addr_of s.image x)) × AreServedFirst (object_at s x).waiters (woken_threads woken)
 WakesFirst s act = Unit {0}
 
 abbrev pub IsInOrderOfService : State → Event → Type 0

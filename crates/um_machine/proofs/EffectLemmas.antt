@@ -7,7 +7,7 @@ use Rattle.um_base.specs.declared.ask.Told.{Told}
 use Rattle.um_base.specs.declared.names.ThreadIx.{ThreadIx}
 use Rattle.um_base.specs.declared.image.Image.{Image}
 use Rattle.um_machine.specs.declared.thread.Thread.{Thread}
-use Rattle.um_machine.specs.Writes.{Effect, Effects, effect, write, wrote}
+use Rattle.um_machine.specs.Writes.{Effect, Effects, Flag, cut, effect, flagged, write, wrote}
 use Rattle.um_machine.specs.Table.{effects, came_with, continues}
 use Rattle.um_machine.specs.declared.pending.Pending.{Pending}
 use Rattle.um_base.specs.declared.names.Mode.{Mode}
@@ -57,10 +57,12 @@ module _ (K : Thread → Type 0) where
     pub told : (me : Thread) (told : Option Told) → K me → K (record me { told = told })
     pub domain : (me : Thread) (domain : ℕ) → K me → K (record me { domain = domain })
     pub doomed : (me : Thread) → K me → K (record me { doomed = true })
+    pub flagged : (me : Thread) (aborted suspended : Bool) → K me → K (record me { aborted = aborted; suspended = suspended })
 
-  -- it holds of a thread that is started
+  -- it holds of a thread that is started, and is kept where one is cut
   abbrev pub Starts : Effect → Type 0
   Starts (Effect.starts who thread) = K thread
+  Starts (Effect.cuts who) = (me : Thread) → K me → K (cut me)
   Starts e = Unit {0}
 
   module _ (passes : Passes) where
@@ -69,10 +71,16 @@ module _ (K : Thread → Type 0) where
     dues-each x i holders (y ∷ ys) zero h = passes.due y _ h
     dues-each x i holders (y ∷ ys) (suc u) h = dues-each x (i + 1) holders ys u h
 
+    flag-passes : (flag : Flag) (me : Thread) → K me → K (flagged flag me)
+    flag-passes Flag.aborted me h = passes.flagged me true me.suspended h
+    flag-passes (Flag.suspended on) me h = passes.flagged me me.aborted on h
+
     pub each-effect : (e : Effect) (s : State) → Starts e → Each s → Each (effect e s)
     each-effect (Effect.wakes woken) s f all = woken-by Each (λ s v told all. λ u. set-each K s.threads v _ (passes.told (thread_at s v) (Some told) (all v)) u (all u)) woken s all
     each-effect (Effect.moves who d) s f all = λ u. set-each K s.threads who _ (passes.domain (thread_at s who) d (all who)) u (all u)
     each-effect (Effect.dooms who) s f all = λ u. set-each K s.threads who _ (passes.doomed (thread_at s who) (all who)) u (all u)
+    each-effect (Effect.flags who flag) s f all = λ u. set-each K s.threads who _ (flag-passes flag (thread_at s who) (all who)) u (all u)
+    each-effect (Effect.cuts who) s f all = λ u. set-each K s.threads who _ (f (thread_at s who) (all who)) u (all u)
     each-effect (Effect.starts who thread) s f all = λ u. set-each K s.threads who thread f u (all u)
     each-effect (Effect.pair who x there) s f all = λ u. dues-each x 0 (slice_index_or (with_pair s who x there).pairs x []) s.threads u (all u)
     each-effect (Effect.bytes a bs) s f all = λ u. subst K (sym (bytes-leave (λ (s : State). thread_at s u) (λ s b. refl) (λ s b. refl) s a bs)) (all u)
@@ -106,14 +114,17 @@ pub record Other : Type 0 where
   pub told : Bool
   pub domain : Bool
   pub doomed : Bool
+  pub flagged : Bool
 
 abbrev pub all_other : Other
-all_other = record { due = true; told = true; domain = true; doomed = true }
+all_other = record { due = true; told = true; domain = true; doomed = true; flagged = true }
 
 abbrev pub is_spared : Other → Effect → Bool
 is_spared other (Effect.wakes woken) = other.told
 is_spared other (Effect.moves who d) = other.domain
 is_spared other (Effect.dooms who) = other.doomed
+is_spared other (Effect.flags who flag) = other.flagged
+is_spared other (Effect.cuts who) = false
 is_spared other (Effect.starts who thread) = false
 is_spared other (Effect.pair who x there) = other.due
 is_spared other e = true
@@ -128,6 +139,7 @@ module _ {K : Type 0} (of : Thread → K) where
     pub told : other.told ≡ true → (me : Thread) (told : Option Told) → of (record me { told = told }) ≡ of me
     pub domain : other.domain ≡ true → (me : Thread) (domain : ℕ) → of (record me { domain = domain }) ≡ of me
     pub doomed : other.doomed ≡ true → (me : Thread) → of (record me { doomed = true }) ≡ of me
+    pub flagged : other.flagged ≡ true → (me : Thread) (aborted suspended : Bool) → of (record me { aborted = aborted; suspended = suspended }) ≡ of me
 
   at-keys : (xs : List Thread) (u : ℕ) → of (slice_index_or xs u nobody) ≡ slice_index_or (map of xs) u (of nobody)
   at-keys [] u = refl
@@ -148,11 +160,17 @@ module _ {K : Type 0} (of : Thread → K) where
     dues-keys h x i holders [] = refl
     dues-keys h x i holders (y ∷ ys) = λ j. ignores.due h y (T.with_due x i holders y).due j ∷ dues-keys h x (i + 1) holders ys j
 
+    flag-ignored : other.flagged ≡ true → (flag : Flag) (me : Thread) → of (flagged flag me) ≡ of me
+    flag-ignored h Flag.aborted me = ignores.flagged h me true me.suspended
+    flag-ignored h (Flag.suspended on) me = ignores.flagged h me me.aborted on
+
     keys-effect : (ks : List K) (e : Effect) (s : State) → is_spared other e ≡ true → keys s ≡ ks → keys (effect e s) ≡ ks
     keys-effect ks (Effect.wakes woken) s h e =
         woken-by (λ (s : State). keys s ≡ ks) (λ s u told e. set-keys s.threads u _ (ignores.told h (thread_at s u) (Some told)) ∙ e) woken s e
     keys-effect ks (Effect.moves who d) s h e = set-keys s.threads who _ (ignores.domain h (thread_at s who) d) ∙ e
     keys-effect ks (Effect.dooms who) s h e = set-keys s.threads who _ (ignores.doomed h (thread_at s who)) ∙ e
+    keys-effect ks (Effect.flags who flag) s h e = set-keys s.threads who _ (flag-ignored h flag (thread_at s who)) ∙ e
+    keys-effect ks (Effect.cuts who) s h e = absurd (subst is_so (sym h) tt)
     keys-effect ks (Effect.starts who thread) s h e = absurd (subst is_so (sym h) tt)
     keys-effect ks (Effect.pair who x there) s h e = dues-keys h x 0 (slice_index_or (with_pair s who x there).pairs x []) s.threads ∙ e
     keys-effect ks (Effect.bytes a bs) s h e = bytes-leave keys (λ s b. refl) (λ s b. refl) s a bs ∙ e
@@ -203,14 +221,17 @@ each-unit ((b, e) ∷ ws) = (tt, each-unit ws)
 pub image-wrote : (ws : Effects) (s : State) → (wrote ws s).image ≡ s.image
 image-wrote ws s = all-wrote (λ (u : State). u.image ≡ s.image) (λ e. Unit {0}) (image-effect s.image) ws s (each-unit ws) refl
 
--- A fact of what is read of each thread is kept by a step, where it holds of a thread that is started, and of the one that goes on; of
--- that one the same is read before and behind the writes, unless it starts another.
+-- A fact of what is read of each thread is kept by a step, where it holds of a thread that is started, of one that is cut, and of the one
+-- that goes on; of that one the same is read before and behind the writes, unless it starts another or cuts one.
 module _ {K : Type 0} (of : Thread → K) (F : K → Type 0) (ignores : Ignores of all_other) where
   abbrev pub IsSo : Thread → Type 0
   IsSo me = F (of me)
 
   abbrev pub Newborns : State → ℕ → Type 0
   Newborns s t = (who : ThreadIx) (script : ℕ) (stack : Row) (priority : ℤ) (mode : Mode) → F (of (T.newborn s (thread_at s t) who.0 script (Pending.Start who script stack priority mode)))
+
+  abbrev pub KeptByCuts : Type 0
+  KeptByCuts = (me : Thread) → IsSo me → IsSo (cut me)
 
   passes : Passes IsSo
   passes =
@@ -219,10 +240,12 @@ module _ {K : Type 0} (of : Thread → K) (F : K → Type 0) (ignores : Ignores 
         told = λ me told h. subst F (sym (ignores.told refl me told)) h;
         domain = λ me domain h. subst F (sym (ignores.domain refl me domain)) h;
         doomed = λ me h. subst F (sym (ignores.doomed refl me)) h;
+        flagged = λ me aborted suspended h. subst F (sym (ignores.flagged refl me aborted suspended)) h;
       }
 
   no-start : (e : Effect) → is_spared all_other e ≡ true → Starts IsSo e
   no-start (Effect.starts who thread) h = absurd (subst is_so (sym h) tt)
+  no-start (Effect.cuts who) h = absurd (subst is_so (sym h) tt)
   no-start e h = tt
 
   no-starts : (ws : Effects) → list_all (λ (w : Bool × Effect). is_spared all_other w.1) ws ≡ true → OfEach (Starts IsSo) ws
@@ -230,23 +253,26 @@ module _ {K : Type 0} (of : Thread → K) (F : K → Type 0) (ignores : Ignores 
   no-starts ((b, e) ∷ ws) h =
       let parts = and_parts (is_spared all_other e) (list_all (λ (w : Bool × Effect). is_spared all_other w.1) ws) h in (no-start e parts.0, no-starts ws parts.1)
 
-  starts-of : (s : State) (t x : ℕ) (q : Pending) → Newborns s t → OfEach (Starts IsSo) (effects_of s t x q)
-  starts-of s t x (Pending.Start who script stack priority mode) new = (new who script stack priority mode, tt)
-  starts-of s t x q new = no-starts (effects_of s t x q) refl
+  starts-of : (s : State) (t x : ℕ) (q : Pending) → Newborns s t → KeptByCuts → OfEach (Starts IsSo) (effects_of s t x q)
+  starts-of s t x (Pending.Start who script stack priority mode) new cuts = (new who script stack priority mode, tt)
+  starts-of s t x (Pending.Cut who) new cuts = (tt, (cuts, tt))
+  starts-of s t x q new cuts = no-starts (effects_of s t x q) refl
 
   abbrev pub IsAsBefore : State → ℕ → Pending → Thread → Type 0
   IsAsBefore s t (Pending.Start who script stack priority mode) me = Unit {0}
+  IsAsBefore s t (Pending.Cut who) me = Unit {0}
   IsAsBefore s t q me = of me ≡ of (thread_at s t)
 
   as-before : (s : State) (t x : ℕ) (q : Pending) → IsAsBefore s t q (thread_at (wrote (effects_of s t x q) s) t)
   as-before s t x (Pending.Start who script stack priority mode) = tt
+  as-before s t x (Pending.Cut who) = tt
   as-before s t x q = let ws = effects_of s t x q in key-same of s (wrote ws s) (keys-wrote of all_other ignores ws s refl) t
 
-  pub each-after : (s : State) (t x : ℕ) (q : Pending) (left : Steps) → Newborns s t → Each IsSo s
+  pub each-after : (s : State) (t x : ℕ) (q : Pending) (left : Steps) → Newborns s t → KeptByCuts → Each IsSo s
       → ((u : State) (me : Thread) → u.image ≡ s.image → IsAsBefore s t q me → IsSo me → IsSo (gone left u t (next_of s t x q) me))
       → Each IsSo (T.after s t x q left)
-  each-after s t x q left new all on =
+  each-after s t x q left new cuts all on =
       let ws = effects_of s t x q in
       let u = wrote ws s in
-      let now = each-wrote IsSo passes ws s (starts-of s t x q new) all in
+      let now = each-wrote IsSo passes ws s (starts-of s t x q new cuts) all in
       subst (Each IsSo) (sym (after-is s t x q left)) (each-went IsSo left u t (next_of s t x q) (on u (thread_at u t) (image-wrote ws s) (as-before s t x q) (now t)) now)

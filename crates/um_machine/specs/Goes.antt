@@ -20,7 +20,7 @@ use Rattle.um_base.specs.declared.limits.TheConstants.{THREADS}
 use Rattle.um_base.specs.Places.{own_row}
 use Rattle.um_machine.specs.Objects.{verdict}
 use Rattle.um_machine.specs.Services.{is_empty}
-use Rattle.um_machine.specs.Order.{Steps, rounded, steps_of, end_steps, fatal_steps, refusal_reason}
+use Rattle.um_machine.specs.Order.{Steps, rounded, to_deadline, steps_of, end_steps, fatal_steps, refusal_reason}
 use Rattle.um_base.specs.declared.act.Cause.{Cause}
 use Rattle.um_machine.specs.declared.thread.Life.{Life}
 
@@ -65,6 +65,7 @@ pub data Change : Type 0 where
   copies : List ℕ → Change
   says : Reply → Change
   outcome : Reply → List ℕ → Change
+  until : Option ℕ → Change
 
 abbrev pub changed : Change → Thread → Thread
 changed Change.nothing me = me
@@ -72,14 +73,16 @@ changed (Change.register to value) me = record me { registers = slice_set me.reg
 changed (Change.copies bs) me = record me { buffer = bs }
 changed (Change.says reply) me = record me { reply = reply }
 changed (Change.outcome reply taken) me = record me { reply = reply; buffer = taken }
+changed (Change.until deadline) me = record me { until = deadline }
 
--- Which steps it has left: those behind the step, without a copy that comes first or behind a wait or a birth, an answer, or a fatal
--- error, at once or behind a step that undoes.
+-- Which steps it has left: those behind the step, without a copy that comes first, behind a wait or a birth, or with the deadline of a
+-- timer that starts first; an answer; or a fatal error, at once or behind a step that undoes.
 pub data Way : Type 0 where
   rest : Way
   skips_copy : Way
   waits : Way
   bears : Addr → Way
+  runs_to : ℕ → Way
   replies : Reply → Way
   fails : ℕ → Cause → Way
   gives_back : ℕ → ℕ → Cause → Way
@@ -90,6 +93,7 @@ steps_by left Way.rest = left
 steps_by left Way.skips_copy = without_copy left
 steps_by left Way.waits = Pending.Resume ∷ left
 steps_by left (Way.bears a) = Pending.Born a ∷ left
+steps_by left (Way.runs_to deadline) = to_deadline deadline left
 steps_by left (Way.replies reply) = Pending.Answer (Some reply) None ∷ []
 steps_by left (Way.fails reason cause) = Pending.Fatal reason cause ∷ []
 steps_by left (Way.gives_back size reason cause) = Pending.Unbuffer size ∷ Pending.Fatal reason cause ∷ []
@@ -129,7 +133,7 @@ pub data Next : Type 0 where
 -- a thread that ends: what its call holds is let go, and its pairs are due
 abbrev pub at_end : State → ℕ → Thread → Steps → Thread
 at_end s t me steps =
-    record me { life = Life.Ended; checked = no_rows; told = None; child = None; due = rows_held s t; pending = steps }
+    record me { life = Life.Ended; checked = no_rows; until = None; told = None; child = None; due = rows_held s t; pending = steps }
 
 -- the steps of one that was told this reply
 abbrev pub told_way : Reply → Way
@@ -145,7 +149,7 @@ abbrev pub gone : Steps → State → ℕ → Next → Thread → Thread
 gone left s t (Next.on change way) me = at_steps s.image (changed change me) (steps_by left way)
 gone left s t (Next.checks x verdict way) me = at_steps s.image (held x verdict me) (steps_by left way)
 gone left s t (Next.answers to reply) me =
-    at_steps s.image (record me { checked = no_rows; registers = with_answer me.registers to reply }) left
+    at_steps s.image (record me { checked = no_rows; until = None; registers = with_answer me.registers to reply }) left
 gone left s t (Next.owns keeps) me = at_steps s.image (record me { keeps_own = me.keeps_own && keeps }) left
 gone left s t (Next.begins (Some instr)) me =
     at_steps s.image (record me { registers = with_begin me.registers instr }) (steps_of s.image t me instr)
@@ -187,6 +191,8 @@ checked_way mode Refusal.Fails (Some e) = refused mode e
 checked_way Mode.User Refusal.FailsUser (Some e) = refused Mode.User e
 checked_way Mode.Supervisor Refusal.FailsUser (Some e) = Way.replies Reply.Void
 checked_way mode (Refusal.Answers reply) (Some e) = Way.replies reply
+checked_way mode (Refusal.AnswersUninit reply) (Some Errno.EINVAL) = Way.replies reply
+checked_way mode (Refusal.AnswersUninit reply) (Some e) = refused mode e
 
 abbrev pub text_way : Found → Way
 text_way (Found.Length n) = Way.rest
@@ -222,6 +228,11 @@ work_way mode ask (Answer.Now reply) = Way.rest
 abbrev pub work_change : Answer → List ℕ → Change
 work_change Answer.Wait taken = Change.nothing
 work_change (Answer.Now reply) taken = Change.outcome reply taken
+
+-- what follows a call that asks no object
+abbrev pub asked_way : Answer → Way
+asked_way Answer.Wait = Way.waits
+asked_way (Answer.Now reply) = Way.rest
 
 abbrev pub reserve_way : Option Addr → Way
 reserve_way None = Way.rest

@@ -8,6 +8,9 @@ pub mod Objects
 pub mod Services
 pub mod Serving
 pub mod Domains
+pub mod Time
+pub mod Joins
+pub mod Futexes
 pub mod Order
 pub mod Readings
 pub mod Writes

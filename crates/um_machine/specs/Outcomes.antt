@@ -36,6 +36,9 @@ found_in _ = Found.Unreadable
 
 abbrev pub answer_in : Act → Answer
 answer_in (Act.Work addr answer woken) = answer
+answer_in (Act.Join who answer) = answer
+answer_in (Act.FutexWait addr value answer) = answer
+answer_in (Act.FutexWake addr answer woken) = answer
 answer_in _ = Answer.Wait
 
 abbrev pub set_in : Act → SetSaid
@@ -59,7 +62,25 @@ reply_in _ = Reply.Void
 
 abbrev pub woken_in : Act → List (ThreadIx × Reply)
 woken_in (Act.Work addr answer woken) = woken
+woken_in (Act.Expire addr woken) = woken
+woken_in (Act.Left who woken) = woken
+woken_in (Act.FutexWake addr answer woken) = woken
 woken_in _ = []
+
+-- whether a thread that lives got or lost its flag
+abbrev pub is_done_in : Act → Bool
+is_done_in (Act.Abort who done) = done
+is_done_in (Act.Suspend who done) = done
+is_done_in (Act.Continue who done) = done
+is_done_in _ = false
+
+abbrev pub deadline_in : Act → ℕ
+deadline_in (Act.Arm deadline) = deadline
+deadline_in _ = 0
+
+abbrev pub now_in : Act → ℕ
+now_in (Act.Tick now) = now
+now_in _ = 0
 
 abbrev pub given_in : Act → Given
 given_in (Act.Grant who addr given) = given

@@ -1,5 +1,5 @@
 -- What a step reads of the state: the row of an address, the work that an act does, and what it says of objects, pools and domains.
-use Rattle.std.specs.Prelude.{ℕ, Bool, false, ◌&&◌, not, nat_le, if◌then◌else◌, List, [], length, map, Option, Some, None, is_some, unwrap_or, slice_index, slice_index_or}
+use Rattle.std.specs.Prelude.{ℕ, Bool, false, ◌&&◌, not, nat_le, if◌then◌else◌, List, [], ◌∷◌, ◌++◌, length, map, Option, Some, None, is_some, unwrap_or, slice_index, slice_index_or}
 use Rattle.um_base.specs.declared.names.Addr.{Addr}
 use Rattle.um_base.specs.declared.names.Errno.{Errno}
 use Rattle.um_base.specs.declared.names.Reply.{Reply}
@@ -9,17 +9,18 @@ use Rattle.um_base.specs.declared.act.Given.{Given}
 use Rattle.um_base.specs.declared.act.Leftover.{Leftover}
 use Rattle.um_base.specs.declared.act.SetSaid.{SetSaid}
 use Rattle.um_base.specs.declared.ask.Told.{Told}
+use Rattle.um_base.specs.declared.ask.Waiter.{Waiter}
 use Rattle.um_base.specs.declared.image.Image.{Image}
 use Rattle.um_machine.specs.declared.pending.Amount.{Amount}
 use Rattle.um_machine.specs.declared.contents.Contents.{Contents}
 use Rattle.um_machine.specs.declared.object.Object.{Object}
 use Rattle.um_machine.specs.declared.thread.Thread.{Thread}
-use Rattle.um_machine.specs.State.{State, thread_at, object_at, pair_at, with_pair}
+use Rattle.um_machine.specs.State.{State, thread_at, object_at, waiters_in, pair_at, with_pair}
 use Rattle.um_base.specs.declared.limits.TheConstants.{STATIC_ROWS}
 use Rattle.um_base.specs.Places.{row_at}
 use Rattle.um_base.specs.Regions.{Partitions}
 use Rattle.um_machine.specs.Objects.{is_gone, has_no_pair}
-use Rattle.um_machine.specs.Services.{Acted, acted}
+use Rattle.um_machine.specs.Services.{Acted, acted, without}
 use Rattle.um_machine.specs.Order.{to_thread}
 
 -- the row at an address that was checked
@@ -46,7 +47,13 @@ abbrev pub work_of : State → ℕ → Addr → Ask → Acted
 work_of s t a ask =
     let me = thread_at s t in
     let o = object_at s (row_of s a) in
-    acted o.contents o.waiters (record { thread = to_thread t; priority = me.priority; ask = ask; bytes = bytes_given me.buffer ask })
+    acted o.contents o.waiters (record { thread = to_thread t; priority = me.priority; ask = ask; bytes = bytes_given me.buffer ask; until = me.until })
+
+-- those who wait in a cell, with a thread behind all others
+abbrev pub queued : State → ℕ → ℕ → Ask → List Waiter
+queued s t c ask =
+    let me = thread_at s t in
+    let w : Waiter = record { thread = to_thread t; priority = me.priority; ask = ask; bytes = []; until = me.until } in without t (waiters_in s c) ++ w ∷ []
 
 -- the replies of the woken
 abbrev pub replies_of : List (ThreadIx × Told) → List (ThreadIx × Reply)

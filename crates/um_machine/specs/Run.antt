@@ -5,6 +5,7 @@ use Rattle.um_base.specs.declared.names.Kind.{Kind}
 use Rattle.um_base.specs.declared.names.Row.{Row}
 use Rattle.um_base.specs.declared.act.Event.{Event}
 use Rattle.um_base.specs.declared.ask.Told.{Told}
+use Rattle.um_base.specs.declared.ask.Waiter.{Waiter}
 use Rattle.um_base.specs.declared.image.Boot.{Boot}
 use Rattle.um_base.specs.declared.image.DomainDef.{DomainDef}
 use Rattle.um_base.specs.declared.image.Image.{Image}
@@ -21,13 +22,23 @@ use Rattle.um_machine.specs.declared.thread.Thread.{Thread}
 use Rattle.um_base.specs.declared.limits.TheConstants.{THREADS, ROWS, STATIC_ROWS, AREA_SIZE}
 use Rattle.um_base.specs.Places.{own_row, thread_of_row, dynamic_kind}
 use Rattle.um_base.specs.Regions.{Partitions}
-use Rattle.um_machine.specs.State.{State, nobody, vacant, thread_at, object_at, with_thread, pair_at, with_pair, is_living, is_started, first_place, instruction_at}
+use Rattle.um_machine.specs.State.{State, nobody, vacant, thread_at, object_at, with_thread, waiters_in, is_waiting, pair_at, with_pair, is_living, is_started, first_place, instruction_at}
 use Rattle.um_machine.specs.Memory.{with_bytes}
 use Rattle.um_machine.specs.Objects.{is_gone, is_free, is_held, has_none, kind_number}
 use Rattle.um_machine.specs.Order.{Steps, to_thread}
 use Rattle.um_machine.specs.Services.{queue, stack, pipe}
 use Rattle.um_machine.specs.Domains.{part_at}
-use Rattle.um_machine.specs.Table.{act_of, after, pays}
+use Rattle.um_machine.specs.Time.{next_deadline, has_come, has_run_out}
+use Rattle.um_machine.specs.Joins.{is_joined, may_say, is_ending}
+use Rattle.um_machine.specs.Table.{act_of, after, pays, row_of}
+
+-- whether a thread waits among these
+abbrev pub stands_in : ℕ → List Waiter → Bool
+stands_in t ws = list_any (λ (w : Waiter). w.thread.0 == t) ws
+
+-- whether a thread waits in a cell
+abbrev pub waits_at : State → ℕ → ℕ → Bool
+waits_at s t c = is_waiting (thread_at s t) && stands_in t (waiters_in s c)
 
 -- whether nothing is due
 abbrev pub none_due : Thread → Bool
@@ -38,14 +49,22 @@ abbrev pub rest_steps : Option Pending → Steps
 rest_steps None = []
 rest_steps (Some p) = p ∷ []
 
--- whether a thread at rest may begin its line, or exit
+-- whether a thread at rest may begin its line, or exit: it is neither doomed nor aborted nor suspended
 abbrev pub may_go : Thread → Bool
-may_go me = not me.doomed
+may_go me = not (me.doomed || me.aborted || me.suspended)
 
--- whether a step isn't of an instruction: it tends to what others have left
+-- whether a thread at rest ends since it was aborted: a doomed one makes no step
+abbrev pub must_stop : Thread → Bool
+must_stop me = not me.doomed && me.aborted
+
+-- whether a step isn't of an instruction: it tends to time, to one that is aborted, or to what others have left
 abbrev pub is_tending : Pending → Bool
 is_tending (Pending.CleanPair who) = true
 is_tending Pending.Recycle = true
+is_tending Pending.Tick = true
+is_tending (Pending.TimeOut who) = true
+is_tending Pending.Expire = true
+is_tending (Pending.Cut who) = true
 is_tending step = false
 
 -- The steps of which a thread may make the first.
@@ -55,9 +74,12 @@ pub data Offers (s : State) (t : ℕ) : Pending → Steps → Type 0 where
   -- the one after an inheritance or the drops of an end, where nothing is due
   skips_inherit : {who : _} {p : Pending} {rest : Steps} → (thread_at s t).pending ≡ Pending.Inherit who ∷ p ∷ rest → IsTrue (none_due (thread_at s t)) → Offers s t p rest
   skips_drops : {from : ℕ} {p : Pending} {rest : Steps} → (thread_at s t).pending ≡ Pending.Drops from ∷ p ∷ rest → IsTrue (none_due (thread_at s t)) → Offers s t p rest
-  -- a living thread at rest that may go begins its line, or exits where none is left
+  -- a living thread at rest that may go begins its line, or exits where none is left; one that is aborted ends
   begins : (thread_at s t).pending ≡ [] → IsTrue (is_living (thread_at s t).life) → IsTrue (may_go (thread_at s t)) → IsTrue (is_some (instruction_at s.image (thread_at s t).place)) → Offers s t Pending.Begin []
   exits : (thread_at s t).pending ≡ [] → IsTrue (is_living (thread_at s t).life) → IsTrue (may_go (thread_at s t)) → instruction_at s.image (thread_at s t).place ≡ None → Offers s t Pending.Exit []
+  stops : (thread_at s t).pending ≡ [] → IsTrue (is_living (thread_at s t).life) → IsTrue (must_stop (thread_at s t)) → Offers s t Pending.Killed []
+  -- a thread in its end tells those who wait for it
+  leaves : IsTrue (is_ending (thread_at s t)) → Offers s t Pending.Left (thread_at s t).pending
   -- any thread that was started may tend
   tends : {p : Pending} → IsTrue (is_tending p) → IsTrue (is_started (thread_at s t).life) → Offers s t p (thread_at s t).pending
 
@@ -84,6 +106,13 @@ MayChoose s t x (Pending.Reserve kind) =
 MayChoose s t x (Pending.CleanPair who) = MayClean s t (own_row s.image who.0) × IsTrue (pair_at s who.0 x)
 MayChoose s t x Pending.Recycle = MayClean s t x × NoPairsOf s (thread_of_row s.image x)
 MayChoose s t x Pending.Resume = (told : Told) × ((thread_at s t).told ≡ Some told)
+MayChoose s t x (Pending.ClearInit a) = IsTrue (not (row_of s a == own_row s.image t && is_joined s t))
+MayChoose s t x (Pending.Join who timeout) = IsTrue (may_say s t x who.0 timeout)
+MayChoose s t x Pending.Left = IsTrue (is_joined s t)
+MayChoose s t x Pending.Tick = IsTrue (is_some (next_deadline s.now s.armed))
+MayChoose s t x (Pending.TimeOut who) = IsTrue (has_come s.now (thread_at s who.0).until && waits_at s who.0 x)
+MayChoose s t x Pending.Expire = IsTrue (has_run_out s.now (object_at s x).contents)
+MayChoose s t x (Pending.Cut who) = IsTrue ((thread_at s who.0).aborted && waits_at s who.0 x)
 MayChoose s t x p = Unit {0}
 
 -- An event is a step of the machine from s to s2: its thread is offered a pending step with a row that it may choose, and the event
@@ -128,6 +157,7 @@ setup_contents Setup.Mutex = Contents.Mutex None 0
 setup_contents (Setup.Msgq size most) = queue size most []
 setup_contents (Setup.Stack most) = stack most []
 setup_contents (Setup.Pipe size) = pipe size [] false
+setup_contents Setup.Timer = Contents.Stopped 0
 setup_contents _ = Contents.Nothing
 
 abbrev pub is_set_up : Setup → Bool
@@ -136,6 +166,7 @@ is_set_up Setup.Mutex = true
 is_set_up (Setup.Msgq size most) = true
 is_set_up (Setup.Stack most) = true
 is_set_up (Setup.Pipe size) = true
+is_set_up Setup.Timer = true
 is_set_up _ = false
 
 -- whether a boot entry has this row as its thread or its stack
@@ -211,6 +242,10 @@ blank image =
       memory = replicate AREA_SIZE 0;
       stacks = replicate AREA_SIZE 0;
       pools = map (λ (p : Pool). p.size) image.pools;
+      now = 0;
+      armed = [];
+      joins = [];
+      futexes = [];
     }
 
 -- the opening state of an image

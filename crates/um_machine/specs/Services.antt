@@ -1,5 +1,5 @@
--- The five services: what an act on an object's contents answers, whom it wakes, and what it leaves
--- (Zephyr: Kernel Services, Semaphores, Mutexes, Message Queues, Stacks; pipes are this project's own).
+-- The six services: what an act on an object's contents answers, whom it wakes, and what it leaves
+-- (Zephyr: Kernel Services, Semaphores, Mutexes, Message Queues, Stacks, Timers; pipes are this project's own).
 use Rattle.std.specs.Prelude.{ℕ, ◌+◌, ◌-◌, Bool, true, false, ◌==◌, not, nat_lt, nat_le, if◌then◌else◌, List, [], ◌∷◌, ◌++◌, length, map, filter, take, drop, reverse, Option, Some, None, int_lt}
 use Rattle.std.specs.List.{list_any}
 use Rattle.um_base.specs.declared.names.Errno.{Errno}
@@ -70,7 +70,7 @@ pipe size bytes closed = Contents.Pipe (record { size = size; bytes = bytes; clo
 -- an act that can't be done now: an error without waiting, else the caller waits, behind all others
 abbrev pub blocks : Contents → List Waiter → Waiter → Timeout → Errno → Acted
 blocks contents waiters who Timeout.NoWait e = answers contents waiters (Reply.Fail e)
-blocks contents waiters who Timeout.Forever e =
+blocks contents waiters who _ e =
     record { contents = contents; waiters = without who.thread.0 waiters ++ who ∷ []; answer = Answer.Wait; taken = []; woken = [] }
 
 -- an act that empties the list of waiters
@@ -294,6 +294,38 @@ pipe_act size bytes closed ws who Ask.PipeReset = wakes_all (pipe size [] closed
 pipe_act size bytes closed ws who Ask.PipeClose = wakes_all (pipe size bytes true) ws Reply.Void Errno.EPIPE
 pipe_act size bytes closed ws who _ = answers (pipe size bytes closed) ws Reply.Void
 
+-- timers
+-- a timer that runs stops, with the waiters in the order of service
+abbrev pub timer_stops : List Waiter → List Waiter → Acted
+timer_stops ws [] = answers (Contents.Stopped 0) ws Reply.Void
+timer_stops ws (first ∷ _) =
+    record {
+      contents = Contents.Stopped 0;
+      waiters = without first.thread.0 ws;
+      answer = Answer.Now Reply.Void;
+      taken = [];
+      woken = told first (Reply.Num 0) [] ∷ [];
+    }
+
+abbrev pub stopped_act : ℕ → List Waiter → Waiter → Ask → Acted
+stopped_act status ws who (Ask.TimerStart deadline) = answers (Contents.Running deadline) ws Reply.Void
+stopped_act status ws who Ask.TimerStatus = answers (Contents.Stopped 0) ws (Reply.Num status)
+stopped_act status ws who Ask.TimerSync = answers (Contents.Stopped 0) ws (Reply.Num status)
+stopped_act status ws who _ = answers (Contents.Stopped status) ws Reply.Void
+
+abbrev pub running_act : ℕ → List Waiter → Waiter → Ask → Acted
+running_act deadline ws who (Ask.TimerStart later) = answers (Contents.Running later) ws Reply.Void
+running_act deadline ws who Ask.TimerStop = timer_stops ws (in_order ws)
+running_act deadline ws who Ask.TimerStatus = answers (Contents.Running deadline) ws (Reply.Num 0)
+running_act deadline ws who Ask.TimerSync =
+    record { contents = Contents.Running deadline; waiters = without who.thread.0 ws ++ who ∷ []; answer = Answer.Wait; taken = []; woken = [] }
+running_act deadline ws who _ = answers (Contents.Running deadline) ws Reply.Void
+
+-- a timer runs out, with the waiters in the order of service: what it is then, who waits, and what the one served is told
+abbrev pub runs_out : List Waiter → List Waiter → Contents × List Waiter × List (ThreadIx × Told)
+runs_out ws [] = (Contents.Stopped 1, ws, [])
+runs_out ws (first ∷ _) = (Contents.Stopped 0, without first.thread.0 ws, told first (Reply.Num 1) [] ∷ [])
+
 -- an initialisation from any state, where nobody waits
 abbrev pub renews : Contents → Contents → List Waiter → Acted
 renews new old [] = answers new [] (Reply.Num 0)
@@ -311,6 +343,8 @@ uses (Contents.Mutex owner depth) ws who ask = mutex_act owner depth ws who ask
 uses (Contents.Msgq q) ws who ask = msgq_act q.size q.most q.messages ws who ask
 uses (Contents.Stack s) ws who ask = stack_act s.most s.values ws who ask
 uses (Contents.Pipe p) ws who ask = pipe_act p.size p.bytes p.closed ws who ask
+uses (Contents.Stopped status) ws who ask = stopped_act status ws who ask
+uses (Contents.Running deadline) ws who ask = running_act deadline ws who ask
 uses contents ws who ask = answers contents ws Reply.Void
 
 -- what an act does with contents and waiters

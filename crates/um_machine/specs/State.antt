@@ -1,15 +1,17 @@
 -- The state of the machine, and the words for its parts.
-use Rattle.std.specs.Prelude.{ℕ, zero, suc, ◌+◌, ◌-◌, Bool, true, false, nat_le, if◌then◌else◌, List, [], replicate, Option, Some, None, slice_get, slice_index, slice_index_or, slice_set, pos}
+use Rattle.std.specs.Prelude.{ℕ, zero, suc, ◌+◌, ◌-◌, Bool, true, false, ◌==◌, ◌&&◌, ◌||◌, not, nat_le, if◌then◌else◌, List, [], ◌∷◌, replicate, Option, Some, None, is_some, slice_get, slice_index, slice_index_or, slice_set, pos}
 use Rattle.um_base.specs.declared.names.Mode.{Mode}
 use Rattle.um_base.specs.declared.names.Mpu.{Mpu}
 use Rattle.um_base.specs.declared.names.Policy.{Policy}
 use Rattle.um_base.specs.declared.names.Reply.TheVariants as Reply
 use Rattle.um_base.specs.declared.names.Term.{Term}
+use Rattle.um_base.specs.declared.ask.Waiter.{Waiter}
 use Rattle.um_base.specs.declared.image.Image.{Image}
 use Rattle.um_base.specs.declared.image.Script.{Script}
 use Rattle.um_base.specs.declared.instr.Instr.{Instr}
-use Rattle.um_base.specs.declared.limits.TheConstants.{ROWS}
+use Rattle.um_base.specs.declared.limits.TheConstants.{ROWS, JOIN_CELL, FUTEX_CELL}
 use Rattle.um_base.specs.Regions.{Partitions}
+use Rattle.um_machine.specs.declared.pending.Pending.{Pending}
 use Rattle.um_machine.specs.declared.thread.Thread.{Thread}
 use Rattle.um_machine.specs.declared.thread.Place.{Place}
 use Rattle.um_machine.specs.declared.thread.Life.{Life}
@@ -26,6 +28,10 @@ pub record State : Type 0 where
   pub memory : List ℕ  -- the bytes of the area of the partitions
   pub stacks : List ℕ  -- the bytes of the area of the stacks
   pub pools : List ℕ  -- what is left in each pool
+  pub now : ℕ  -- virtual time: the ticks from the beginning
+  pub armed : List ℕ  -- the deadlines, in the order in which they were armed
+  pub joins : List Waiter  -- those who wait for the end of a thread, in the order in which they began to
+  pub futexes : List Waiter  -- those who wait on a futex, in the order in which they began to
 
 -- an image without anything
 abbrev pub no_image : Image
@@ -42,6 +48,7 @@ no_image =
       objects = [];
       boots = [];
       scripts = [];
+      futexes = [];
     }
 
 abbrev pub is_user : Mode → Bool
@@ -58,6 +65,14 @@ is_started Life.Unborn = false
 is_started Life.Living = true
 is_started Life.Ended = true
 
+-- whether a thread waits: it goes on once it is woken, and hasn't been
+abbrev pub is_to_resume : List Pending → Bool
+is_to_resume (Pending.Resume ∷ rest) = true
+is_to_resume _ = false
+
+abbrev pub is_waiting : Thread → Bool
+is_waiting me = is_to_resume me.pending && not (is_some me.told)
+
 -- no row
 abbrev pub no_rows : List Bool
 no_rows = replicate ROWS false
@@ -68,6 +83,8 @@ nobody =
     record {
       life = Life.Unborn;
       doomed = false;
+      aborted = false;
+      suspended = false;
       mode = Mode.User;
       domain = 0;
       stack = record { 0 = 0 };
@@ -78,6 +95,7 @@ nobody =
       pending = [];
       reply = Reply.Void;
       buffer = [];
+      until = None;
       told = None;
       checked = no_rows;
       keeps_own = false;
@@ -111,6 +129,18 @@ with_thread s t thread = record s { threads = slice_set s.threads t thread }
 
 abbrev pub with_object : State → ℕ → Object → State
 with_object s x object = record s { objects = slice_set s.objects x object }
+
+-- The cells in which threads wait: those of the objects by row, and behind them that of the joins and that of the futexes.
+abbrev pub waiters_in : State → ℕ → List Waiter
+waiters_in s c = if c == JOIN_CELL then s.joins else if c == FUTEX_CELL then s.futexes else (object_at s c).waiters
+
+abbrev pub with_waiters : State → ℕ → List Waiter → State
+with_waiters s c ws =
+    record s {
+      objects = if c == JOIN_CELL || c == FUTEX_CELL then s.objects else slice_set s.objects c (record (object_at s c) { waiters = ws });
+      joins = if c == JOIN_CELL then ws else s.joins;
+      futexes = if c == FUTEX_CELL then ws else s.futexes;
+    }
 
 -- whether a thread index has a pair with a row
 abbrev pub pair_at : State → ℕ → ℕ → Bool

@@ -1,28 +1,33 @@
 -- The table of steps: what each says, what it writes, and how its thread goes on.
-use Rattle.std.specs.Prelude.{ℕ, ◌+◌, true, false, ◌==◌, not, if◌then◌else◌, List, [], ◌∷◌, length, map, take, Some, None, is_some}
+use Rattle.std.specs.Prelude.{ℕ, ◌+◌, true, false, ◌==◌, not, if◌then◌else◌, List, [], ◌∷◌, length, map, take, Some, None, is_some, unwrap_or}
 use Rattle.um_base.specs.declared.names.Access.TheVariants as Access
 use Rattle.um_base.specs.declared.names.Errno.{Errno}
 use Rattle.um_base.specs.declared.names.Reply.{Reply}
 use Rattle.um_base.specs.declared.act.Act.{Act}
+use Rattle.um_base.specs.declared.ask.Ask.{Ask}
 use Rattle.um_base.specs.declared.act.Found.{Found}
 use Rattle.um_base.specs.declared.image.Image.{Image}
 use Rattle.um_machine.specs.declared.pending.Pending.{Pending}
 use Rattle.um_machine.specs.declared.thread.Thread.{Thread}
-use Rattle.um_machine.specs.State.{State, thread_at, object_at, instruction_at}
-use Rattle.um_base.specs.declared.limits.TheConstants.{PIECE}
+use Rattle.um_machine.specs.State.{State, is_living, thread_at, object_at, waiters_in, instruction_at}
+use Rattle.um_base.specs.declared.limits.TheConstants.{FUTEX_CELL, JOIN_CELL, PIECE}
 use Rattle.um_base.specs.Lawful.{most_parts}
 use Rattle.um_base.specs.Places.{own_row, addr_of, setup_at}
 use Rattle.um_base.specs.Regions.{stack_range}
 use Rattle.um_machine.specs.Memory.{allowed, bytes_at, le_bytes, le_value, string_read, string_bytes}
 use Rattle.um_machine.specs.Objects.{verdict}
+use Rattle.um_machine.specs.Services.{in_order, runs_out, still_waiting, without}
+use Rattle.um_machine.specs.Time.{next_deadline, told_late}
+use Rattle.um_machine.specs.Joins.{join_answer, all_joined, without_joins}
+use Rattle.um_machine.specs.Futexes.{futex_answer, futex_refusal, futex_woken, wake_answer}
 use Rattle.um_machine.specs.Domains.{initialised, added, removed, reply_to, domain_after, part_named}
 use Rattle.um_machine.specs.Order.{Steps, to_addr, to_thread}
 use Rattle.um_machine.specs.declared.object.Status.{Status}
 use Rattle.um_machine.specs.Readings.{row_by}
-use Rattle.um_machine.specs.Writes.{Edit, Effect, Effects, does, only, wrote, drops, is_done, is_number, start_of, zeros_of, was_given}
-use Rattle.um_machine.specs.Goes.{Change, Way, Next, went, no_access, copied, checked_way, text_way, text_change, set_way, work_way, work_change, reserve_way, reserve_change}
-use Rattle.um_machine.specs.Outcomes.{domain_reply_in, fits_in, given_in, is_fault, leftover_in, reserved_in, set_in, answer_in, found_in, reply_in, value_in, verdict_in}
-pub use Rattle.um_machine.specs.Readings.{row_of, message_size, amount_of, bytes_given, work_of, replies_of, given, dropped, set_said, left_in, pays, domain_at, move_reply, reply_of}
+use Rattle.um_machine.specs.Writes.{Edit, Effect, Effects, Flag, does, only, wrote, drops, is_done, is_number, says_wait, start_of, zeros_of, was_given}
+use Rattle.um_machine.specs.Goes.{Change, Way, Next, went, no_access, copied, checked_way, text_way, text_change, set_way, work_way, work_change, asked_way, reserve_way, reserve_change}
+use Rattle.um_machine.specs.Outcomes.{deadline_in, domain_reply_in, fits_in, given_in, is_done_in, is_fault, leftover_in, now_in, reserved_in, set_in, answer_in, found_in, reply_in, value_in, verdict_in}
+pub use Rattle.um_machine.specs.Readings.{row_of, message_size, amount_of, bytes_given, work_of, queued, replies_of, given, dropped, set_said, left_in, pays, domain_at, move_reply, reply_of}
 pub use Rattle.um_machine.specs.Writes.{stays_due, with_due, with_dues, paired, paid_back, paid_from, cost_of, all_woken, buffer_cost, newborn}
 pub use Rattle.um_machine.specs.Goes.{at_steps, rows_held, rows_to_pass, without_copy, with_answer, with_begin, next_doom}
 
@@ -68,6 +73,22 @@ act_of s t x (Pending.Drops from) = Act.DropPair (to_thread t) (to_addr (addr_of
 act_of s t x (Pending.Dooms from) = Act.Doom (to_thread from)
 act_of s t x (Pending.CleanPair who) = Act.DropPair who (to_addr (addr_of s.image x)) (dropped s who.0 x)
 act_of s t x Pending.Recycle = Act.Recycle (to_addr (addr_of s.image x))
+act_of s t x (Pending.Arm ticks) = Act.Arm (s.now + ticks)
+act_of s t x (Pending.ArmTimer ticks) = Act.Arm (s.now + ticks)
+act_of s t x (Pending.Abort who) = Act.Abort who (is_living (thread_at s who.0).life)
+act_of s t x (Pending.Suspend who) = Act.Suspend who (is_living (thread_at s who.0).life)
+act_of s t x (Pending.Continue who) = Act.Continue who (is_living (thread_at s who.0).life)
+act_of s t x Pending.Killed = Act.Killed
+act_of s t x (Pending.Join who timeout) = Act.Join who (join_answer s t x who.0 timeout)
+act_of s t x Pending.Left = Act.Left (to_thread t) (replies_of (all_joined s t))
+act_of s t x (Pending.FutexWait a value timeout) = Act.FutexWait a value (futex_answer s t a.0 value timeout)
+act_of s t x (Pending.FutexWake a all) =
+    let woken = futex_woken s t a.0 all in Act.FutexWake a (wake_answer (futex_refusal s t a.0) (length woken)) (replies_of woken)
+act_of s t x Pending.Tick = Act.Tick (unwrap_or (next_deadline s.now s.armed) s.now)
+act_of s t x (Pending.TimeOut who) = Act.TimedOut who
+act_of s t x Pending.Expire =
+    let o = object_at s x in Act.Expire (to_addr (addr_of s.image x)) (replies_of (runs_out o.waiters (in_order o.waiters)).2)
+act_of s t x (Pending.Cut who) = Act.Cut who
 
 -- what each step writes
 abbrev pub effects : State → ℕ → ℕ → Pending → Act → Effects
@@ -124,6 +145,24 @@ effects s t x (Pending.CleanPair who) act =
     does (Effect.object (own_row s.image who.0) (Edit.cleaned (to_thread t))) ∷ drops who.0 x (leftover_in act)
 effects s t x Pending.Recycle act =
     let o = object_at s x in does (Effect.object x Edit.vacates) ∷ does (Effect.returns o.cost) ∷ does (Effect.returns o.buffer) ∷ []
+effects s t x (Pending.Arm ticks) act = does (Effect.arms (deadline_in act)) ∷ []
+effects s t x (Pending.ArmTimer ticks) act = does (Effect.arms (deadline_in act)) ∷ []
+effects s t x (Pending.Abort who) act = only (is_done_in act) (Effect.flags who.0 Flag.aborted) ∷ []
+effects s t x (Pending.Suspend who) act = only (is_done_in act) (Effect.flags who.0 (Flag.suspended true)) ∷ []
+effects s t x (Pending.Continue who) act = only (is_done_in act) (Effect.flags who.0 (Flag.suspended false)) ∷ []
+effects s t x Pending.Killed act = []
+effects s t x (Pending.Join who timeout) act = only (says_wait (answer_in act)) (Effect.waiters JOIN_CELL (queued s t JOIN_CELL (Ask.Join who))) ∷ []
+effects s t x Pending.Left act = does (Effect.waiters JOIN_CELL (without_joins s t)) ∷ does (Effect.wakes (all_joined s t)) ∷ []
+effects s t x (Pending.FutexWait a value timeout) act =
+    only (says_wait (answer_in act)) (Effect.waiters FUTEX_CELL (queued s t FUTEX_CELL (Ask.FutexWait a))) ∷ []
+effects s t x (Pending.FutexWake a all) act =
+    let woken = futex_woken s t a.0 all in does (Effect.waiters FUTEX_CELL (still_waiting woken s.futexes)) ∷ does (Effect.wakes woken) ∷ []
+effects s t x Pending.Tick act = does (Effect.passes (now_in act)) ∷ []
+effects s t x (Pending.TimeOut who) act = does (Effect.waiters x (without who.0 (waiters_in s x))) ∷ does (Effect.wakes (told_late who x)) ∷ []
+effects s t x Pending.Expire act =
+    let o = object_at s x in
+    let out = runs_out o.waiters (in_order o.waiters) in does (Effect.object x (Edit.runs_out out.0 out.1)) ∷ does (Effect.wakes out.2) ∷ []
+effects s t x (Pending.Cut who) act = does (Effect.waiters x (without who.0 (waiters_in s x))) ∷ does (Effect.cuts who.0) ∷ []
 
 -- how a thread goes on after a step, by the row that it chose, what it said, and the bytes that came with it
 abbrev pub continues : Image → ℕ → Thread → ℕ → Pending → Act → List ℕ → Next
@@ -168,6 +207,20 @@ continues image t me x (Pending.Drops from) act came = Next.drops (x + 1)
 continues image t me x (Pending.Dooms from) act came = Next.dooms from
 continues image t me x (Pending.CleanPair who) act came = Next.stays
 continues image t me x Pending.Recycle act came = Next.stays
+continues image t me x (Pending.Arm ticks) act came = Next.on (Change.until (Some (deadline_in act))) Way.rest
+continues image t me x (Pending.ArmTimer ticks) act came = Next.on (Change.until None) (Way.runs_to (deadline_in act))
+continues image t me x (Pending.Abort who) act came = Next.on Change.nothing Way.rest
+continues image t me x (Pending.Suspend who) act came = Next.on Change.nothing Way.rest
+continues image t me x (Pending.Continue who) act came = Next.on Change.nothing Way.rest
+continues image t me x Pending.Killed act came = Next.exits
+continues image t me x (Pending.Join who timeout) act came = Next.on (work_change (answer_in act) []) (asked_way (answer_in act))
+continues image t me x Pending.Left act came = Next.stays
+continues image t me x (Pending.FutexWait a value timeout) act came = Next.on (work_change (answer_in act) []) (asked_way (answer_in act))
+continues image t me x (Pending.FutexWake a all) act came = Next.on (work_change (answer_in act) []) (asked_way (answer_in act))
+continues image t me x Pending.Tick act came = Next.stays
+continues image t me x (Pending.TimeOut who) act came = Next.stays
+continues image t me x Pending.Expire act came = Next.stays
+continues image t me x (Pending.Cut who) act came = Next.stays
 
 -- the bytes that come with a step: those of a copy, of a text, or what was taken of an object
 abbrev pub came_with : State → ℕ → Pending → List ℕ

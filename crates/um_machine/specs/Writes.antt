@@ -1,5 +1,5 @@
 -- What steps write of what threads share, as data: the kinds of write, and the state after each.
-use Rattle.std.specs.Prelude.{ℕ, ◌+◌, ◌-◌, ◌*◌, Bool, true, false, ◌&&◌, not, if◌then◌else◌, List, [], ◌∷◌, replicate, Option, Some, None, slice_index, slice_index_or, slice_set}
+use Rattle.std.specs.Prelude.{ℕ, ◌+◌, ◌-◌, ◌*◌, Bool, true, false, ◌&&◌, not, if◌then◌else◌, List, [], ◌∷◌, ◌++◌, replicate, Option, Some, None, slice_index, slice_index_or, slice_set}
 use Rattle.um_base.specs.declared.names.Kind.{Kind}
 use Rattle.um_base.specs.declared.names.Range.{Range}
 use Rattle.um_base.specs.declared.names.Reply.{Reply}
@@ -16,7 +16,7 @@ use Rattle.um_machine.specs.declared.object.Object.{Object}
 use Rattle.um_machine.specs.declared.pending.Pending.{Pending}
 use Rattle.um_machine.specs.declared.thread.Thread.{Thread}
 use Rattle.um_machine.specs.Contents.{saturated}
-use Rattle.um_machine.specs.State.{State, nobody, vacant, thread_at, object_at, with_thread, with_object, with_pair, first_place}
+use Rattle.um_machine.specs.State.{State, nobody, vacant, thread_at, object_at, with_thread, with_object, with_waiters, with_pair, first_place}
 use Rattle.um_base.specs.Regions.{Partitions}
 use Rattle.um_machine.specs.Memory.{with_bytes}
 use Rattle.um_machine.specs.Order.{rounded}
@@ -92,6 +92,7 @@ pub data Edit : Type 0 where
   opens : Edit
   becomes : Status → Edit
   works : Contents → List Waiter → Option Cost → Edit
+  runs_out : Contents → List Waiter → Edit
   named : List ℕ → Edit
   cleaned : ThreadIx → Edit
   reserved : Kind → Option Cost → Edit
@@ -102,16 +103,33 @@ edited (Edit.inits init) o = record o { init = init }
 edited Edit.opens o = record o { public = true }
 edited (Edit.becomes status) o = record o { status = status }
 edited (Edit.works contents waiters buffer) o = record o { contents = contents; waiters = waiters; buffer = buffer }
+edited (Edit.runs_out contents waiters) o = record o { contents = contents; waiters = waiters }
 edited (Edit.named text) o = record o { contents = Contents.Named text }
 edited (Edit.cleaned by) o = record o { cleaner = Some by }
 edited (Edit.reserved kind cost) o = record vacant { kind = Some kind; status = Status.Reserved; cost = cost }
 edited Edit.vacates o = vacant
 
--- A write of a step, of what threads share: the words of other threads, and what they are told, pairs, objects, bytes, pools and domains.
+-- a flag that a thread gets or loses
+pub data Flag : Type 0 where
+  aborted : Flag
+  suspended : Bool → Flag
+
+abbrev pub flagged : Flag → Thread → Thread
+flagged Flag.aborted me = record me { aborted = true }
+flagged (Flag.suspended on) me = record me { suspended = on }
+
+-- a thread that waited and is aborted has only its end left
+abbrev pub cut : Thread → Thread
+cut me = record me { pending = Pending.Killed ∷ [] }
+
+-- A write of a step, of what threads share: the words of other threads, and what they are told, pairs, objects, bytes, pools, domains,
+-- those who wait in a cell, and virtual time with its deadlines.
 pub data Effect : Type 0 where
   wakes : List (ThreadIx × Told) → Effect
   moves : ℕ → ℕ → Effect
   dooms : ℕ → Effect
+  flags : ℕ → Flag → Effect
+  cuts : ℕ → Effect
   starts : ℕ → Thread → Effect
   pair : ℕ → ℕ → Bool → Effect
   object : ℕ → Edit → Effect
@@ -119,11 +137,16 @@ pub data Effect : Type 0 where
   takes : Option ℕ → ℕ → Effect
   returns : Option Cost → Effect
   edits : ℕ → Option Partitions → Effect
+  waiters : ℕ → List Waiter → Effect
+  arms : ℕ → Effect
+  passes : ℕ → Effect
 
 abbrev pub effect : Effect → State → State
 effect (Effect.wakes woken) s = all_woken woken s
 effect (Effect.moves who d) s = with_thread s who (record (thread_at s who) { domain = d })
 effect (Effect.dooms who) s = with_thread s who (record (thread_at s who) { doomed = true })
+effect (Effect.flags who flag) s = with_thread s who (flagged flag (thread_at s who))
+effect (Effect.cuts who) s = with_thread s who (cut (thread_at s who))
 effect (Effect.starts who thread) s = with_thread s who thread
 effect (Effect.pair who x there) s = paired s who x there
 effect (Effect.object x edit) s = with_object s x (edited edit (object_at s x))
@@ -131,6 +154,9 @@ effect (Effect.bytes a bs) s = with_bytes s a bs
 effect (Effect.takes pool size) s = record s { pools = paid_from pool size s.pools }
 effect (Effect.returns cost) s = record s { pools = paid_back cost s.pools }
 effect (Effect.edits d parts) s = record s { domains = slice_set s.domains d parts }
+effect (Effect.waiters c ws) s = with_waiters s c ws
+effect (Effect.arms deadline) s = record s { armed = s.armed ++ deadline ∷ [] }
+effect (Effect.passes now) s = record s { now = now }
 
 -- writes, each made or not, one after another
 abbrev pub Effects : Type 0
@@ -168,6 +194,10 @@ is_done _ = false
 abbrev pub is_number : Reply → Bool
 is_number (Reply.Num n) = true
 is_number _ = false
+
+abbrev pub says_wait : Answer → Bool
+says_wait Answer.Wait = true
+says_wait _ = false
 
 abbrev pub start_of : Option Range → ℕ
 start_of None = 0

@@ -1,3 +1,5 @@
 pub mod Offered
 pub mod Worked
 pub mod Lending
+pub mod OfRun
+pub mod Ahead

@@ -1,10 +1,9 @@
 -- Which steps a thread is offered, and what may be made of an act.
-use Rattle.std.specs.Prelude.{◌≡◌, ℕ, ◌+◌, ◌<◌, Bool, true, false, ◌&&◌, not, if◌then◌else◌, List, [], take, drop, slice_get, Option, Some, None}
-use Rattle.um_base.specs.declared.names.ThreadIx.{ThreadIx}
+use Rattle.std.specs.Prelude.{◌≡◌, ℕ, ◌+◌, ◌<◌, not, IsTrue, if◌then◌else◌, List, [], take, drop, slice_get, Option, Some, None}
 use Rattle.um_base.specs.declared.act.Act.{Act}
 use Rattle.um_base.specs.declared.act.Event.{Event}
 use Rattle.um_base.specs.declared.act.Found.{Found}
-use Rattle.um_base.specs.declared.limits.TheConstants.{ROWS}
+use Rattle.um_base.specs.declared.limits.TheConstants.{FUTEX_CELL, ROWS}
 use Rattle.um_base.specs.declared.instr.Instr.{Instr}
 use Rattle.um_machine.specs.declared.pending.Pending.{Pending}
 use Rattle.um_machine.specs.declared.thread.Place.{Place}
@@ -12,8 +11,8 @@ use Rattle.um_machine.specs.Limits.{IsSound}
 use Rattle.um_machine.specs.State.{State, thread_at, is_living, instruction_at}
 use Rattle.um_machine.specs.Table.{act_of, after}
 use Rattle.um_machine.specs.Run.{Step, Runs, MayChoose}
-use Rattle.um_matrix.specs.declared.matrix.choice.Choice.{Choice}
-pub use Rattle.um_machine.specs.Run.{is_tending, may_go}
+use Rattle.um_matrix.specs.declared.tables.choice.Choice.{Choice}
+pub use Rattle.um_machine.specs.Run.{is_tending, may_go, must_stop}
 pub use Rattle.um_invariants.specs.NextSteps.{first_or, first_step, is_skipped, line_step, rest_step, second_step}
 
 -- an event is a step of a state
@@ -28,14 +27,18 @@ IsNoStep s event = (s2 : State) → Step s event s2 → ⊥
 abbrev pub event_of : ℕ → Act → Event
 event_of t act = record { thread = record { 0 = t }; act = act }
 
--- whether a step chooses a row
-abbrev pub chooses : Pending → Bool
-chooses (Pending.Inherit who) = true
-chooses (Pending.Drops from) = true
-chooses (Pending.Reserve kind) = true
-chooses (Pending.CleanPair who) = true
-chooses Pending.Recycle = true
-chooses _ = false
+-- how many rows are tried for a step, or how many cells, where it chooses one; a join chooses one of two answers
+abbrev pub row_count : Pending → ℕ
+row_count (Pending.Inherit who) = ROWS
+row_count (Pending.Drops from) = ROWS
+row_count (Pending.Reserve kind) = ROWS
+row_count (Pending.CleanPair who) = ROWS
+row_count Pending.Recycle = ROWS
+row_count Pending.Expire = ROWS
+row_count (Pending.TimeOut who) = FUTEX_CELL + 1
+row_count (Pending.Cut who) = FUTEX_CELL + 1
+row_count (Pending.Join who timeout) = 2
+row_count _ = 1
 
 -- a step says this act, with a row that it may choose
 abbrev pub Says : State → ℕ → Act → Pending → Type 0
@@ -48,10 +51,12 @@ SaysNot s t act step = (x : ℕ) → MayChoose s t x step → act ≡ act_of s t
 abbrev pub IsChoice : State → ℕ → Act → Choice → Type 0
 IsChoice s t act Choice.Begins = Step s (event_of t act) (after s t 0 Pending.Begin [])
 IsChoice s t act Choice.Exits = Step s (event_of t act) (after s t 0 Pending.Exit [])
+IsChoice s t act Choice.Stops = Step s (event_of t act) (after s t 0 Pending.Killed [])
+IsChoice s t act Choice.Leaves = Step s (event_of t act) (after s t 0 Pending.Left [])
 IsChoice s t act (Choice.Makes step row taken) =
-    IsSound step × (row < ROWS) × (0 < taken) × Step s (event_of t act) (after s t row step (drop taken (thread_at s t).pending))
-IsChoice s t act (Choice.CleansPair who row) = (row < ROWS) × Step s (event_of t act) (after s t row (Pending.CleanPair who) [])
-IsChoice s t act (Choice.Recycles row) = (row < ROWS) × Step s (event_of t act) (after s t row Pending.Recycle [])
+    IsSound step × (row < row_count step) × (0 < taken) × Step s (event_of t act) (after s t row step (drop taken (thread_at s t).pending))
+IsChoice s t act (Choice.Tends step row) =
+    IsTrue (is_tending step) × (row < row_count step) × Step s (event_of t act) (after s t row step [])
 
 -- a step may choose no row
 abbrev pub ChoosesNone : State → ℕ → Pending → Type 0
@@ -76,16 +81,20 @@ line_act place None = Act.Exit
 abbrev pub rest_act : State → ℕ → Option Act
 rest_act s t =
     let me = thread_at s t in
-    if is_living me.life && may_go me then Some (line_act me.place (instruction_at s.image me.place)) else None
+    if not (is_living me.life) then None
+    else if may_go me then Some (line_act me.place (instruction_at s.image me.place))
+    else if must_stop me then Some Act.Killed
+    else None
 
--- how many rows are tried for a step
-abbrev pub row_count : Pending → ℕ
-row_count step = if chooses step then ROWS else 1
-
--- the thread that loses a pair in an act
-abbrev pub pair_of : Act → Option ThreadIx
-pair_of (Act.DropPair who addr left) = Some who
-pair_of _ = None
+-- the step that tends and says this act, if there is one
+abbrev pub tending_of : Act → Option Pending
+tending_of (Act.DropPair who addr left) = Some (Pending.CleanPair who)
+tending_of (Act.Recycle addr) = Some Pending.Recycle
+tending_of (Act.Tick now) = Some Pending.Tick
+tending_of (Act.TimedOut who) = Some (Pending.TimeOut who)
+tending_of (Act.Expire addr woken) = Some Pending.Expire
+tending_of (Act.Cut who) = Some (Pending.Cut who)
+tending_of _ = None
 
 -- a string that was found has fewer bytes than are read at most
 abbrev pub IsShort : Found → Type 0
@@ -95,12 +104,14 @@ IsShort _ = Unit {0}
 -- what is made of the act of a thread at rest
 abbrev pub rest_choice : Act → Choice
 rest_choice Act.Exit = Choice.Exits
+rest_choice Act.Killed = Choice.Stops
 rest_choice _ = Choice.Begins
 
 -- the state after a choice
 abbrev pub after_choice : State → ℕ → Choice → State
 after_choice s t Choice.Begins = after s t 0 Pending.Begin []
 after_choice s t Choice.Exits = after s t 0 Pending.Exit []
+after_choice s t Choice.Stops = after s t 0 Pending.Killed []
+after_choice s t Choice.Leaves = after s t 0 Pending.Left []
 after_choice s t (Choice.Makes step row taken) = after s t row step (drop taken (thread_at s t).pending)
-after_choice s t (Choice.CleansPair who row) = after s t row (Pending.CleanPair who) []
-after_choice s t (Choice.Recycles row) = after s t row Pending.Recycle []
+after_choice s t (Choice.Tends step row) = after s t row step []

@@ -8,7 +8,7 @@ use Rattle.um_base.specs.declared.image.Image.{Image}
 use Rattle.um_base.specs.declared.names.Addr.{Addr}
 use Rattle.um_base.specs.declared.names.ThreadIx.{ThreadIx}
 use Rattle.um_machine.specs.declared.thread.Thread.{Thread}
-use Rattle.um_machine.specs.Goes.{Next, at_steps, changed, steps_by, text_change, text_way, went, work_change, work_way}
+use Rattle.um_machine.specs.Goes.{Next, asked_way, at_steps, changed, steps_by, text_change, text_way, went, work_change, work_way}
 use Rattle.um_machine.specs.Memory.{string_bytes}
 use Rattle.um_machine.specs.Order.{Steps}
 use Rattle.um_machine.specs.State.{State, nobody}
@@ -21,6 +21,10 @@ threads_woken (w ∷ ws) ts = threads_woken ws (slice_set ts w.0.0 (record (slic
 -- the thread that did the work has its answer, or waits
 abbrev pub answered : Image → Thread → Ask → List ℕ → Steps → Answer → Thread
 answered image me ask taken rest answer = at_steps image (changed (work_change answer taken) me) (steps_by rest (work_way me.mode ask answer))
+
+-- the same of a thread that asked no object
+abbrev pub asked : Image → Thread → Steps → Answer → Thread
+asked image me rest answer = at_steps image (changed (work_change answer []) me) (steps_by rest (asked_way answer))
 
 -- a thread has the string that it read, or answers why there is none
 abbrev pub string_taken : State → ℕ → Addr → Steps → Found → State

@@ -1,154 +1,109 @@
-//! A state of the machine, and its steps.
+//! A state that a run leads to, and its steps.
 
-mod apply;
-mod boot;
-mod checks;
-mod choice;
-mod cleaning;
-mod creation;
-mod domains;
-mod dumped;
-mod dynamic;
-mod ends;
-mod make;
-mod memory;
-mod moves;
-mod next;
-mod objects;
-mod pairs;
-mod rows;
-mod says;
-mod strings;
-mod transfer;
-mod waiting;
+ghost use Rattle.std.specs.Prelude.{◌≡◌, ◌<◌, IfOk, OnOk, OnErr, IfErr, MatchOption, IsTrue, false};
+ghost use Rattle.um_base.specs.{Lawful.{IsLawful}, declared.act.{Act.{Act}, Event.{Event}}};
 
-ghost use Rattle.std.specs.Prelude.{◌≡◌, ◌<◌, ◌≤◌, length};
-
-use crate::object_table::ObjectTable;
+use crate::tables::{Choice, Tables};
+use std::alloc::Global;
 use std::marker::Model;
-use um_base::{AREA_SIZE, DOMAINS, Image, POOLS, Parts, ROWS, THREADS};
-use um_machine::{Object, Thread};
-use um_service::Outcome;
+use um_base::{Event, Image, OutOfMemory, THREADS};
 
 /// The event is no step of the machine from its present state.
 #[derive(Clone, Copy, PartialEq, Eq)]
 pub struct NotAStep;
 
-/// A state of the machine, which contracts see as the definitions have it.
-/// The bytes of the read-only data are filled up with zeros to its rounded size.
+/// A state of the machine to which a run leads from the opening of its image, which contracts see as the definitions have it.
 #[derive(Drop)]
 pub struct Matrix<'a> {
-    image: &'a Image,
-    rodata: Vec<u8>,
-    threads: Vec<Thread>,
-    objects: ObjectTable,
-    pairs: Vec<[bool; THREADS]>,
-    domains: Vec<Option<Parts>>,
-    memory: Vec<u8>,
-    stacks: Vec<u8>,
-    pools: Vec<u32>,
-    /// Room for one outcome: what an act on an object answers and whom it wakes.
-    outcome: Vec<Outcome>,
+    tables: Tables<'a>,
 }
 
 impl<'a> Model for Matrix<'a> {
-    ghost use Rattle.std.specs.Prelude.{◌≡◌, ◌≤◌, length};
-    ghost use Rattle.um_base.specs.declared.limits.TheConstants.{THREADS, ROWS, DOMAINS, AREA_SIZE, POOLS};
-    ghost use Rattle.um_machine.specs.{State.{State}, Memory.{rodata_of}};
-    ghost use Rattle.um_steps.specs.Given.{IsGiven};
+    ghost use Rattle.um_machine.specs.State.{State};
+    ghost use Rattle.um_matrix.specs.OfRun.{IsOfRun};
 
     ghost Value = { State };
 
-    ghost view = { λ m. record {
-      image = m.image.now;
-      threads = m.threads.items;
-      objects = m.objects;
-      pairs = m.pairs.items;
-      domains = m.domains.items;
-      memory = m.memory.items;
-      stacks = m.stacks.items;
-      pools = m.pools.items;
-    } };
+    ghost view = { λ m. m.tables };
 
-    ghost invariant = { λ m.
-        (length m.threads.items ≡ THREADS) × (length m.objects ≡ ROWS) × (length m.pairs.items ≡ ROWS)
-        × (length m.domains.items ≤ DOMAINS)
-        × (length m.memory.items ≡ AREA_SIZE) × (length m.stacks.items ≡ AREA_SIZE)
-        × (length m.pools.items ≤ POOLS) × (m.rodata.items ≡ rodata_of m.image.now)
-        × (length m.outcome.items ≡ 1) × IsGiven m.image.now };
+    ghost invariant = { λ m. IsOfRun m.tables };
 }
 
 impl<'a> Matrix<'a> {
-    ghost use Rattle.um_machine.specs.{State.{object_at}, Memory.{rodata_of}};
+    ghost use Rattle.um_machine.specs.Run.{IsComplete, Runs, Step, opening};
+    ghost use Rattle.um_matrix.specs.Offered.{IsChoice, IsNoStep, IsRefusedAt, IsStep, after_choice};
 
-    /// The image that runs.
-    pub fn image(&self) -> &'a Image
-        ensures { result.now ≡ self.now.image }
+    /// The opening state of an image. All room is reserved here.
+    pub fn boot(alloc: Global, image: &'a Image) -> Result<Matrix<'a>, OutOfMemory>
+        requires lawful { IsLawful image.now }
+        ensures { IfOk result (λ matrix. matrix ≡ opening image.now) }
     {
-        self.image
+        let _objects = image.objects.len();
+        let tables = Tables::boot(alloc, image)?;
+        Ok(Matrix { tables })
     }
 
-    /// The threads, by thread index.
-    pub fn threads(&self) -> &[Thread]
-        ensures value { result.now ≡ self.now.threads }
-        ensures all { length result.now ≡ THREADS }
+    /// The tables of the state.
+    pub fn tables(&self) -> &Tables<'a>
+        ensures { result.now ≡ self.now }
     {
-        self.threads.as_slice()
+        &self.tables
     }
 
-    /// The object of a row.
-    pub fn object(&self, x: usize) -> &Object
-        requires { x < ROWS }
-        ensures value { result.now ≡ object_at self.now x }
-        ensures all { length self.now.objects ≡ ROWS }
+    /// Makes what was chosen of an act. It takes no memory.
+    pub fn make(&mut self, t: usize, choice: &Choice)
+        requires thread { t < THREADS }
+        requires chosen { (act : Act) × IsChoice self.old t act choice.now }
+        ensures { self.new ≡ after_choice self.old t choice.now }
     {
-        self.objects.row(x)
+        self.tables.make_choice(t, choice);
     }
 
-    /// Which threads have a pair with an object, by row and then by thread index.
-    pub fn pairs(&self) -> &[[bool; THREADS]]
-        ensures value { result.now ≡ self.now.pairs }
-        ensures all { length result.now ≡ ROWS }
+    /// Makes an event, where it is a step. A refusal changes nothing, and no call takes memory.
+    pub fn apply(&mut self, event: &Event) -> Result<(), NotAStep>
+        ensures ok { OnOk result (Step self.old event.now self.new) }
+        ensures refused { OnErr result (IsNoStep self.old event.now) }
+        ensures same { OnErr result (self.new ≡ self.old) }
     {
-        self.pairs.as_slice()
+        match self.tables.choice(event) {
+            None => Err(NotAStep),
+            Some(choice) => {
+                self.make(event.thread.0 as usize, &choice);
+                Ok(())
+            }
+        }
     }
 
-    /// The partitions of the domains, where they are initialised.
-    pub fn domains(&self) -> &[Option<Parts>]
-        ensures value { result.now ≡ self.now.domains }
-        ensures few { length result.now ≤ DOMAINS }
+    /// Makes the events of a list, each a step: or those before the first that is none, whose place it answers.
+    #[tactic(auto, using(crate::proofs::RunLemmas::runs_more))]
+    pub fn judge(&mut self, events: &[Event]) -> Result<(), usize>
+        ensures ok { OnOk result (Runs self.old events.now self.new) }
+        ensures refused { IfErr result (λ k. IsRefusedAt self.old events.now k self.new) }
     {
-        self.domains.as_slice()
+        for (k, event) in events.iter().enumerate() {
+            match self.apply(event) {
+                Ok(()) => {}
+                Err(NotAStep) => return Err(k),
+            }
+        }
+        Ok(())
     }
 
-    /// The bytes of the read-only data.
-    pub fn rodata(&self) -> &[u8]
-        ensures { result.now ≡ rodata_of self.now.image }
+    /// An event that is a step, or none where no event is one.
+    pub fn next_event(&self) -> Option<Event>
+        ensures { MatchOption result (IsComplete self.now) (λ event. IsStep self.now event) }
     {
-        self.rodata.as_slice()
+        self.tables.next_event()
     }
 
-    /// The bytes of the area of the partitions.
-    pub fn memory(&self) -> &[u8]
-        ensures value { result.now ≡ self.now.memory }
-        ensures all { length result.now ≡ AREA_SIZE }
+    /// Whether no event is a step.
+    pub fn is_final(&self) -> bool
+        ensures yes { IsTrue result → IsComplete self.now }
+        ensures no { result ≡ false → (event : Event) × IsStep self.now event }
     {
-        self.memory.as_slice()
-    }
-
-    /// The bytes of the area of the thread stacks.
-    pub fn stacks(&self) -> &[u8]
-        ensures value { result.now ≡ self.now.stacks }
-        ensures all { length result.now ≡ AREA_SIZE }
-    {
-        self.stacks.as_slice()
-    }
-
-    /// The bytes that are left in the pools.
-    pub fn pools(&self) -> &[u32]
-        ensures value { result.now ≡ self.now.pools }
-        ensures few { length result.now ≤ POOLS }
-    {
-        self.pools.as_slice()
+        match self.next_event() {
+            Some(_) => false,
+            None => true,
+        }
     }
 }

@@ -3,6 +3,7 @@ use Rattle.std.proofs.Common.{◌≡◌, ◌<◌, ◌≤◌, ℕ, ◌+◌, Bool,
 use Rattle.std.specs.List.{list_all}
 use Rattle.std.proofs.lemmas.Bool.{and_parts, and_from, false≢true}
 use Rattle.um_base.specs.declared.act.SetSaid.{SetSaid}
+use Rattle.um_base.specs.declared.ask.Ask.{Ask}
 use Rattle.um_base.specs.declared.image.Image.{Image}
 use Rattle.um_base.specs.declared.names.Addr.{Addr}
 use Rattle.um_base.specs.declared.names.Errno.{Errno}
@@ -14,7 +15,7 @@ use Rattle.um_machine.specs.declared.pending.Refusal.{Refusal}
 use Rattle.um_machine.specs.declared.thread.Life.{Life}
 use Rattle.um_machine.specs.declared.thread.Thread.{Thread}
 use Rattle.um_machine.specs.Goes.{Change, Next, Way, at_steps, changed, checked_way, copied, held, no_access, reserve_way, set_way, steps_by, told_way, went, without_copy}
-use Rattle.um_machine.specs.Order.{Steps}
+use Rattle.um_machine.specs.Order.{Steps, to_deadline}
 use Rattle.um_machine.specs.State.{State, no_rows, thread_at, with_thread}
 use Rattle.um_machine.specs.Table.{after}
 use Rattle.um_machine.specs.Writes.{wrote}
@@ -25,7 +26,7 @@ use Rattle.um_measure.specs.Measure.{total, step_cost, due_cost}
 use Rattle.um_measure.specs.Reached.{is_of_end, may_wait, passes_on, IsReached}
 use Rattle.um_measure.proofs.EasedLemmas.{IsEased, at-eased, due-le, eased-same, eased-then}
 use Rattle.um_measure.proofs.MadeLemmas.{IsMade, IsReady, goes, ready-living, ready-rest}
-use Rattle.um_measure.proofs.WriteLemmas.{IsBase, StartNone, all_added, base-wrote}
+use Rattle.um_measure.proofs.WriteLemmas.{IsBase, AreBounded, all_added, base-wrote}
 
 -- steps that cost at most so much, and that a thread of this life and child may have pending
 pub record IsLeft (image : Image) (life : Life) (child : Option ThreadIx) (most : ℕ) (steps : Steps) : Type 0 where
@@ -39,6 +40,7 @@ way_cost Way.rest = 0
 way_cost Way.skips_copy = 0
 way_cost Way.waits = 1
 way_cost (Way.bears a) = 3
+way_cost (Way.runs_to deadline) = 0
 way_cost (Way.replies reply) = 1
 way_cost (Way.fails reason cause) = 0
 way_cost (Way.gives_back size reason cause) = 1
@@ -48,6 +50,7 @@ way_cost (Way.clears a reason cause) = 1
 abbrev pub adds_none : Way → Bool
 adds_none Way.rest = true
 adds_none Way.skips_copy = true
+adds_none (Way.runs_to deadline) = true
 adds_none way = false
 
 way-left : (image : Image) (life : Life) (child : Option ThreadIx) (most : ℕ) (left : Steps) (way : Way) → IsLeft image life child most left → (adds_none way ≡ false → life ≡ Life.Living) → IsLeft image life child (most + way_cost way) (steps_by left way)
@@ -62,6 +65,14 @@ way-left image life child most left Way.waits h living =
     record { cost = omega (arith, h.cost); waits = and_from (may_wait life Pending.Resume) _ (rw (living refl) refl) h.waits; passes = h.passes }
 way-left image life child most left (Way.bears a) h living =
     record { cost = omega (arith, h.cost); waits = and_from (may_wait life (Pending.Born a)) _ (rw (living refl) refl) h.waits; passes = h.passes }
+way-left image life child most left (Way.runs_to deadline) h living = ahead life left h
+  where
+    ahead : (life : Life) (steps : Steps) → IsLeft image life child most steps → IsLeft image life child (most + 0) (to_deadline deadline steps)
+    ahead life [] h = record { cost = omega (arith, h.cost); waits = h.waits; passes = h.passes }
+    ahead Life.Unborn (Pending.Work a (Ask.TimerStart before) ∷ steps) h = record { cost = omega (arith, h.cost); waits = h.waits; passes = h.passes }
+    ahead Life.Living (Pending.Work a (Ask.TimerStart before) ∷ steps) h = record { cost = omega (arith, h.cost); waits = h.waits; passes = h.passes }
+    ahead Life.Ended (Pending.Work a (Ask.TimerStart before) ∷ steps) h = record { cost = omega (arith, h.cost); waits = h.waits; passes = h.passes }
+    ahead life (step ∷ steps) h = record { cost = omega (arith, h.cost); waits = h.waits; passes = h.passes }
 way-left image life child most left (Way.replies reply) h living = record { cost = omega arith; waits = rw (living refl) refl; passes = refl }
 way-left image life child most left (Way.fails reason cause) h living = record { cost = omega arith; waits = rw (living refl) refl; passes = refl }
 way-left image life child most left (Way.gives_back size reason cause) h living = record { cost = omega arith; waits = rw (living refl) refl; passes = refl }
@@ -80,6 +91,8 @@ checked-most mode Refusal.Fails (Some e) = omega arith
 checked-most Mode.User Refusal.FailsUser (Some e) = omega arith
 checked-most Mode.Supervisor Refusal.FailsUser (Some e) = omega arith
 checked-most mode (Refusal.Answers reply) (Some e) = omega arith
+checked-most mode (Refusal.AnswersUninit reply) (Some Errno.EINVAL) = omega arith
+checked-most mode (Refusal.AnswersUninit reply) (Some e) = omega arith
 
 pub access-most : (fault : Bool) → way_cost (if fault then no_access else Way.rest) ≤ 0
 access-most true = omega arith
@@ -144,7 +157,7 @@ module _ (s : State) (reached : IsReached s) (t : ℕ) (step : Pending) (rest : 
       → IsMade s (went rest u t next) (Unit {0})
   went-made (Next.on change way) h lives cost passes = with-way (changed change (thread_at u t)) (eased-changed change (thread_at u t)) way lives cost passes
   went-made (Next.checks x v way) h lives cost passes = with-way (held x v (thread_at u t)) (eased-held x v (thread_at u t)) way lives cost passes
-  went-made (Next.answers to reply) h lives cost passes = with-way (record (thread_at u t) { checked = no_rows; registers = _ }) (record { life = refl; place = refl; pending = refl; child = refl; due = omega arith }) Way.rest lives cost passes
+  went-made (Next.answers to reply) h lives cost passes = with-way (record (thread_at u t) { checked = no_rows; until = None; registers = _ }) (record { life = refl; place = refl; pending = refl; child = refl; due = omega arith }) Way.rest lives cost passes
   went-made (Next.owns keeps) h lives cost passes = with-way (record (thread_at u t) { keeps_own = _ }) (record { life = refl; place = refl; pending = refl; child = refl; due = omega arith }) Way.rest lives cost passes
   went-made (Next.resumes (Some told)) h lives cost passes =
       with-way (record (thread_at u t) { told = None; reply = told.reply; buffer = told.taken }) (record { life = refl; place = refl; pending = refl; child = refl; due = omega arith }) (told_way told.reply) lives cost passes
@@ -152,8 +165,8 @@ module _ (s : State) (reached : IsReached s) (t : ℕ) (step : Pending) (rest : 
   went-made (Next.begins instr) h lives cost passes = absurd (false≢true h)
   went-made next h lives cost passes = absurd (false≢true h)
 
--- a step that starts nobody, and that its thread goes on from in its call or behind it
-pub step-made : (s : State) → IsReached s → (t x : ℕ) (step : Pending) (rest : Steps) → IsReady s t step rest → StartNone (effects_of s t x step) → goes_on_by (next_of s t x step) ≡ true
+-- a step whose writes have their bounds, and that its thread goes on from in its call or behind it
+pub step-made : (s : State) → IsReached s → (t x : ℕ) (step : Pending) (rest : Steps) → IsReady s t step rest → AreBounded (effects_of s t x step) → goes_on_by (next_of s t x step) ≡ true
     → (adds_none (way_of (next_of s t x step)) ≡ false → is_of_end step ≡ false) → all_added (effects_of s t x step) + way_cost (way_of (next_of s t x step)) < step_cost s.image step → passes_on (thread_at s t).child rest ≡ true
     → IsMade s (after s t x step rest) (Unit {0})
 step-made s reached t x step rest ready starts on lives cost passes =

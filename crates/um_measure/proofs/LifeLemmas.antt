@@ -17,7 +17,7 @@ use Rattle.um_machine.specs.declared.thread.Thread.{Thread}
 use Rattle.um_machine.specs.Order.{Steps, end_steps, fatal_steps, steps_of}
 use Rattle.um_machine.specs.State.{State, pair_at, no_rows, thread_at, with_thread, is_living, first_place, instruction_at, next_place}
 use Rattle.um_machine.specs.Goes.{Next, at_end, at_steps, next_doom, rows_held, went, with_begin}
-use Rattle.um_machine.specs.Table.{after}
+use Rattle.um_machine.specs.Table.{after, dropped}
 use Rattle.um_machine.specs.Writes.{wrote}
 use Rattle.um_machine.proofs.EffectLemmas.{effects_of}
 use Rattle.um_measure.specs.Measure.{total, end_cost, step_cost, lines_left, life_cost, due_cost, thread_cost}
@@ -28,7 +28,7 @@ use Rattle.um_measure.proofs.MadeLemmas.{IsMade, IsReady, begun_cost, cost-at_st
 use Rattle.um_measure.proofs.NextLemmas.{next-line, first-stands}
 use Rattle.um_measure.proofs.ScriptLemmas.{lawful-line}
 use Rattle.um_measure.proofs.StoreLemmas.{store-dropped}
-use Rattle.um_measure.proofs.WriteLemmas.{base-self, base-wrote, base-drop}
+use Rattle.um_measure.proofs.WriteLemmas.{base-self, base-wrote, base-drop, drops-armed}
 
 life-living : (life : Life) → IsTrue (is_living life) → life ≡ Life.Living
 life-living Life.Unborn h = absurd (false≢true h)
@@ -44,7 +44,7 @@ pub begun-living : (image : Image) (life : Life) (place : Place) → life ≡ Li
 begun-living image life place e = rw e refl
 
 -- what an ended one costs
-cost-ended : (image : Image) (me : Thread) (steps : Steps) (due checked : List Bool) → thread_cost image (record me { life = Life.Ended; checked = checked; told = None; child = None; due = due; pending = steps }) ≡ total (step_cost image) steps
+cost-ended : (image : Image) (me : Thread) (steps : Steps) (due checked : List Bool) → thread_cost image (record me { life = Life.Ended; checked = checked; until = None; told = None; child = None; due = due; pending = steps }) ≡ total (step_cost image) steps
 unfolding thread_cost
 cost-ended image me steps due checked = omega arith
 
@@ -76,12 +76,22 @@ ends s reached t steps last cost =
     let after-it = cost-ended s.image (thread_at s t) steps (rows_held s t) no_rows in
     let few = last.cost in
     writes s reached t s 0 (base-self s reached.sized) (at_end s t (thread_at s t) steps) (Unit {0}) (record { place = λ living. absurd (false≢true living); waits = last.waits; passes = last.passes })
-    (λ due. omega (arith, after-it, few, cost))
+    (λ due. omega (arith, after-it, few, cost)) (omega (arith, after-it, few, cost))
 
 pub exit : (s : State) → IsReached s → (t x : ℕ) (rest : Steps) → (thread_at s t).pending ≡ [] → IsTrue (is_living (thread_at s t).life) → IsMade s (after s t x Pending.Exit rest) (Unit {0})
 exit s reached t x rest none living =
     let cost = cost-rests s.image (thread_at s t) none (life-living (thread_at s t).life living) in
     ends s reached t (end_steps s.image t (thread_at s t)) (end-last s.image t (thread_at s t)) (omega (arith, cost))
+
+-- an aborted thread ends at rest, or by its next step
+pub stop : (s : State) → IsReached s → (t x : ℕ) (rest : Steps) → (thread_at s t).pending ≡ [] → IsTrue (is_living (thread_at s t).life) → IsMade s (after s t x Pending.Killed rest) (Unit {0})
+stop s reached t x rest none living = exit s reached t x rest none living
+
+pub killed : (s : State) → IsReached s → (t x : ℕ) (rest : Steps) → IsReady s t Pending.Killed rest → IsMade s (after s t x Pending.Killed rest) (Unit {0})
+killed s reached t x rest ready =
+    let cost = cost-pending s.image (thread_at s t) ready.first ready.others ready.are in
+    let begun = begun-living s.image (thread_at s t).life (thread_at s t).place (ready-living s t Pending.Killed rest ready refl) in
+    ends s reached t (end_steps s.image t (thread_at s t)) (end-last s.image t (thread_at s t)) (omega (arith, cost, begun))
 
 pub fatal : (s : State) → IsReached s → (t x : ℕ) (rest : Steps) (reason : ℕ) (cause : Cause) → IsReady s t (Pending.Fatal reason cause) rest → IsMade s (after s t x (Pending.Fatal reason cause) rest) (Unit {0})
 fatal s reached t x rest reason cause ready =
@@ -110,7 +120,7 @@ begin-made s reached t left none living (Some line) e some =
     let less = next.1 in
     writes s reached t s 0 (base-self s reached.sized) (at_steps s.image me2 steps) (Unit {0})
     (sound-at_steps s.image reached.lawful me2 steps (λ l. place) (living-waits me.life steps alive plan.waits) (plan.passes me.child))
-    (λ due. omega (arith, before, after-it, begun, cost, less))
+    (λ due. omega (arith, before, after-it, begun, cost, less)) (omega (arith, before, after-it, begun, cost, less))
 
 pub begin : (s : State) → IsReached s → (t x : ℕ) (rest : Steps) → (thread_at s t).pending ≡ [] → IsTrue (is_living (thread_at s t).life) → IsTrue (is_some (instruction_at s.image (thread_at s t).place)) → IsMade s (after s t x Pending.Begin rest) (Unit {0})
 begin s reached t x rest none living some = begin-made s reached t rest none living (instruction_at s.image (thread_at s t).place) refl some
@@ -132,7 +142,7 @@ enter s reached t x rest script ready =
     let cost = ready.cost in
     writes s reached t s 0 (base-self s reached.sized) (record me { mode = Mode.User; place = first_place s.image script; pending = [] }) (Unit {0})
     (record { place = λ l. first.stands; waits = refl; passes = refl })
-    (λ due. omega (arith, before, begun, after-it, cost))
+    (λ due. omega (arith, before, begun, after-it, cost)) (omega (arith, before, begun, after-it, cost))
 
 -- Dooms and drops.
 
@@ -181,7 +191,7 @@ dooms s reached t x rest from ready =
       waits = next-waits (thread_at s2 t).life from (from + 1) (nat_lt (from + 1) THREADS) may2;
       passes = next-passes (thread_at s2 t).child (from + 1) (nat_lt (from + 1) THREADS);
     })
-    (λ d. omega (arith, before, after-it, lines, due, less, cost))
+    (λ d. omega (arith, before, after-it, lines, due, less, cost)) (omega (arith, before, after-it, lines, due, less, cost))
 
 drops-wait : (life : Life) (from n : ℕ) (rest : Steps) → list_all (may_wait life) (Pending.Drops from ∷ rest) ≡ true → list_all (may_wait life) (Pending.Drops n ∷ rest) ≡ true
 drops-wait Life.Unborn from n rest h = h
@@ -199,6 +209,7 @@ drops s reached t x rest from ready held =
     let begun : begun_cost s.image me.life me.place ≡ begun_cost s.image (thread_at s t).life (thread_at s t).place = rw (same.life, same.place) refl in
     let due : due_cost (thread_at s2 t).child (thread_at s2 t).due ≤ due_cost (thread_at s t).child (thread_at s t).due = rw same.child (due-le (thread_at s t).child (thread_at s2 t).due (thread_at s t).due same.due) in
     let less = store-dropped s t x held in
+    let armed : s2.armed ≡ s.armed = drops-armed s t x (dropped s t x) in
     let cost = ready.cost in
     let sound : IsSound s.image (record (thread_at s t) { pending = Pending.Drops (x + 1) ∷ rest }) = record {
       place = (reached.sound t).place;
@@ -207,4 +218,4 @@ drops s reached t x rest from ready held =
     } in
     writes s reached t s2 0 base me (Unit {0})
     (sound-eased s.image (record (thread_at s t) { pending = Pending.Drops (x + 1) ∷ rest }) me (record { life = same.life; place = same.place; pending = refl; child = same.child; due = same.due }) sound)
-    (λ d. omega (arith, before, after-it, begun, due, less, cost))
+    (λ d. omega (arith, before, after-it, begun, due, less, cost)) (rw armed (omega (arith, before, after-it, begun, due, cost)))

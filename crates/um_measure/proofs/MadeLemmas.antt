@@ -1,5 +1,5 @@
 -- Where a step leads: a state that a run may reach, with a lower measure.
-use Rattle.std.proofs.Common.{◌≡◌, ◌<◌, ◌≤◌, ℕ, ◌+◌, true, false, [], ◌∷◌, refl, sym, ◌∙◌, subst, arith, slice_index_or, if◌then◌else◌}
+use Rattle.std.proofs.Common.{◌≡◌, ◌<◌, ◌≤◌, ℕ, ◌+◌, true, false, [], ◌∷◌, length, refl, sym, ◌∙◌, subst, arith, slice_index_or, if◌then◌else◌}
 use Rattle.std.specs.Prelude.{IsTrue}
 use Rattle.std.specs.List.{list_all}
 use Rattle.std.proofs.lemmas.Bool.{and_parts, false≢true}
@@ -13,19 +13,20 @@ use Rattle.um_machine.specs.Order.{Steps}
 use Rattle.um_machine.specs.Services.{is_empty}
 use Rattle.um_machine.specs.State.{State, thread_at, with_thread, is_living, next_place}
 use Rattle.um_machine.specs.Goes.{at_steps}
-use Rattle.um_measure.specs.Measure.{total, step_cost, life_cost, due_cost, thread_cost, measure}
+use Rattle.um_measure.specs.Measure.{total, step_cost, life_cost, due_cost, thread_cost, measure, armings}
 use Rattle.um_measure.specs.Reached.{IsPlace, is_of_living, is_of_end, may_wait, passes_on, IsSound, AreSized, IsReached}
 use Rattle.um_measure.proofs.EasedLemmas.{at-eased, total-eased, total-set_eased, sound-eased, sound-set}
 use Rattle.um_measure.proofs.NextLemmas.{next-stands}
 use Rattle.um_measure.proofs.StoreLemmas.{store_of}
 use Rattle.um_measure.proofs.WriteLemmas.{IsBase}
 
--- a step that is due lowers the measure, and each step keeps what the states of a run have in common
+-- a step that is due lowers the measure, and each step keeps what the states of a run have in common, and raises no bound on the deadlines
 pub record IsMade (s s2 : State) (Due : Type 0) : Type 0 where
   pub image_is : s2.image ≡ s.image
   pub sized : AreSized s2.pairs
   pub sound : (t : ℕ) → IsSound s.image (thread_at s2 t)
   pub falls : Due → measure s2 < measure s
+  pub arms : armings s2 ≤ armings s
 
 -- a thread makes one of its steps: what it has pending is no cheaper than that step and those behind it, which are its own
 pub record IsReady (s : State) (t : ℕ) (step : Pending) (rest : Steps) : Type 0 where
@@ -70,16 +71,18 @@ pub sound-at_steps : (image : Image) → IsLawful image → (me : Thread) (steps
     → list_all (may_wait me.life) steps ≡ true → passes_on me.child steps ≡ true → IsSound image (at_steps image me steps)
 sound-at_steps image lawful me steps place waits passes = record { place = λ living. stands-steps image lawful me.place steps (place living); waits = waits; passes = passes }
 
--- one thread is written, and the others are eased
+-- one thread is written, which pays for what was armed, and the others are eased
 pub writes : (s : State) → IsReached s → (t : ℕ) (u : State) (n : ℕ) → IsBase s u n → (me : Thread) (Due : Type 0) → IsSound s.image me
     → (Due → store_of u + thread_cost s.image me < store_of s + thread_cost s.image (thread_at s t))
+    → length u.armed + thread_cost s.image me ≤ length s.armed + thread_cost s.image (thread_at s t)
     → IsMade s (with_thread u t me) Due
-unfolding measure
-writes s reached t u n base me Due sound cost = record {
+unfolding measure armings
+writes s reached t u n base me Due sound cost arms = record {
   image_is = base.image;
   sized = base.sized;
   sound = sound-set s.image u.threads t me sound (λ v. sound-eased s.image (thread_at s v) (slice_index_or u.threads v _) (at-eased s.threads u.threads base.eased v) (reached.sound v));
   falls = λ due. rw base.image (omega (arith, total-set_eased s.image s.threads u.threads base.eased t me, cost due));
+  arms = rw base.image (omega (arith, total-set_eased s.image s.threads u.threads base.eased t me, arms));
 }
 
 -- a thread goes on with these steps
@@ -94,18 +97,20 @@ goes s reached t step rest ready u extra base me steps life place cost waits pas
     let begun : begun_cost s.image me.life me.place ≡ begun_cost s.image (thread_at s t).life (thread_at s t).place = rw (life, place) refl in
     let less = ready.cost in
     let store = base.store in
+    let armed = base.armed in
     let sound = sound-at_steps s.image reached.lawful me steps (rw (life, place) (reached.sound t).place) (rw life waits) passes in
     subst (λ (i : Image). IsMade s (with_thread u t (at_steps i me steps)) (Unit {0})) (sym base.image)
-    (writes s reached t u extra base (at_steps s.image me steps) (Unit {0}) sound (λ due. omega (arith, before, after, begun, less, cost, store)))
+    (writes s reached t u extra base (at_steps s.image me steps) (Unit {0}) sound (λ due. omega (arith, before, after, begun, less, cost, store)) (omega (arith, before, after, begun, less, cost, armed)))
 
--- no thread is written
-pub lowers : (s : State) → IsReached s → (u : State) (n : ℕ) → IsBase s u n → store_of u < store_of s → IsMade s u (Unit {0})
-unfolding measure
-lowers s reached u n base store = record {
+-- no thread is written, and nothing is armed
+pub lowers : (s : State) → IsReached s → (u : State) (n : ℕ) → IsBase s u n → store_of u < store_of s → length u.armed ≤ length s.armed → IsMade s u (Unit {0})
+unfolding measure armings
+lowers s reached u n base store armed = record {
   image_is = base.image;
   sized = base.sized;
   sound = λ v. sound-eased s.image (thread_at s v) (thread_at u v) (at-eased s.threads u.threads base.eased v) (reached.sound v);
   falls = λ due. rw base.image (omega (arith, total-eased s.image s.threads u.threads base.eased, store));
+  arms = rw base.image (omega (arith, total-eased s.image s.threads u.threads base.eased, armed));
 }
 
 -- Lives.

@@ -12,13 +12,14 @@ use Rattle.um_base.specs.declared.image.Boot.{Boot}
 use Rattle.um_base.specs.declared.image.Image.{Image}
 use Rattle.um_base.specs.declared.image.ObjectDef.{ObjectDef}
 use Rattle.um_base.specs.declared.image.Partition.{Partition}
+use Rattle.um_base.specs.declared.image.Setup.{Setup}
 use Rattle.um_base.specs.declared.limits.TheConstants.{ROWS, THREADS, STATIC_ROWS, STACK_AREA}
 use Rattle.um_base.specs.declared.names.Row.{Row}
 use Rattle.um_machine.specs.declared.object.Object.{Object}
 use Rattle.um_machine.specs.Memory.{with_bytes}
-use Rattle.um_machine.specs.Run.{blank, booted, booted_one, boot_thread, granted, index_or, loaded, objects_from, opening}
+use Rattle.um_machine.specs.Run.{blank, booted, booted_one, boot_thread, granted, index_or, loaded, objects_from, setup_contents, opening}
 use Rattle.um_machine.specs.State.{State, nobody, vacant, thread_at, with_thread, with_pair, first_place}
-use Rattle.um_measure.specs.Measure.{total, one_if, flags_set, lines_left, thread_cost, gone_cost, store_cost, measure}
+use Rattle.um_measure.specs.Measure.{total, one_if, is_running, time_of, flags_set, lines_left, thread_cost, object_cost, store_cost, measure, armings}
 use Rattle.um_measure.specs.Reached.{AreSized, IsSound, IsReached}
 use Rattle.um_measure.proofs.TotalLemmas.{total-set}
 use Rattle.um_measure.proofs.EasedLemmas.{cost-nobody, sound-set}
@@ -71,15 +72,16 @@ record IsGranted (n t : ℕ) (pairs : List (List Bool)) (s s2 : State) : Type 0 
   image_is : s2.image ≡ s.image
   threads_are : s2.threads ≡ s.threads
   objects_are : s2.objects ≡ s.objects
+  time_is : time_of s2 ≡ time_of s
   sized : AreSized s2.pairs
   adds : Adds n t pairs s2.pairs
 
 grants : (n t : ℕ) (pairs : List (List Bool)) (rows : List Row) (s : State) → list_all (λ (x : Row). nat_lt x.0 n) rows ≡ true → AreSized s.pairs → Adds n t pairs s.pairs → IsGranted n t pairs s (granted t rows s)
-grants n t pairs [] s below sized adds = record { image_is = refl; threads_are = refl; objects_are = refl; sized = sized; adds = adds }
+grants n t pairs [] s below sized adds = record { image_is = refl; threads_are = refl; objects_are = refl; time_is = refl; sized = sized; adds = adds }
 grants n t pairs (x ∷ rows) s below sized adds =
     let parts = and_parts (nat_lt x.0 n) _ below in
     let rest = grants n t pairs rows (with_pair s t x.0 true) parts.1 (sized-pair s t x.0 true sized) (adds-more n t x.0 pairs s.pairs adds (ltb-true x.0 n parts.0)) in
-    record { image_is = rest.image_is; threads_are = rest.threads_are; objects_are = rest.objects_are; sized = rest.sized; adds = rest.adds }
+    record { image_is = rest.image_is; threads_are = rest.threads_are; objects_are = rest.objects_are; time_is = rest.time_is; sized = rest.sized; adds = rest.adds }
 
 store-adds : (n t : ℕ) (rows news : List (List Bool)) (objects : List Object) → Adds n t rows news → store_cost news objects ≤ store_cost rows objects + 2 * n
 unfolding store_cost
@@ -132,14 +134,15 @@ boots-one image lawful few boot h most s o =
     let set = total-set (thread_cost image) nobody (cost-nobody image) s.threads t me in
     let threads : total (thread_cost image) (booted_one boot s).threads ≡ total (thread_cost image) s1.threads = ap (total (thread_cost image)) g.threads_are in
     let store = store-adds (length image.objects) t s.pairs (booted_one boot s).pairs s.objects g.adds in
-    let objects : store_of (booted_one boot s) ≡ store_cost (booted_one boot s).pairs s.objects = ap (store_cost (booted_one boot s).pairs) g.objects_are in
+    let objects : store_cost (booted_one boot s).pairs (booted_one boot s).objects ≡ store_cost (booted_one boot s).pairs s.objects = ap (store_cost (booted_one boot s).pairs) g.objects_are in
+    let time = g.time_is in
     let cost = o.cost in
     let dear = first.cost in
     record {
       image_is = g.image_is ∙ o.image_is;
       sized = g.sized;
       sound = λ u. rw g.threads_are (sound-set image s.threads t me (record { place = λ l. rw place first.stands; waits = refl; passes = refl }) o.sound u);
-      cost = omega (arith, me-cost, lines, dear, weighs, set, threads, store, objects, cost, few);
+      cost = omega (arith, me-cost, lines, dear, weighs, set, threads, store, objects, time, cost, few);
     }
 
 boots-all : (image : Image) → IsLawful image → length image.objects ≤ STATIC_ROWS → (boots : List Boot) → list_all (is_lawful_boot image) boots ≡ true → (most : ℕ) (s : State) → IsOpening image most s
@@ -176,11 +179,20 @@ all-replicate : {A : Type 0} (p : A → Bool) (x : A) → p x ≡ true → (n : 
 all-replicate p x h zero = refl
 all-replicate p x h (suc n) = and_from _ _ h (all-replicate p x h n)
 
-none-gone : (boots : List Boot) (x : ℕ) (os : List ObjectDef) → total gone_cost (objects_from boots x os) ≡ 0
-none-gone boots x [] = total-replicate gone_cost vacant refl (ROWS - x)
-none-gone boots x (o ∷ os) = let rest = none-gone boots (x + 1) os in omega (arith, rest)
+none-running : (setup : Setup) → one_if (is_running (setup_contents setup)) ≡ 0
+none-running (Setup.Sem count limit) = refl
+none-running Setup.Mutex = refl
+none-running (Setup.Msgq size most) = refl
+none-running (Setup.Stack most) = refl
+none-running (Setup.Pipe size) = refl
+none-running Setup.Timer = refl
+none-running _ = refl
 
-store-none : (pairs : List (List Bool)) (objects : List Object) → total flags_set pairs ≡ 0 → total gone_cost objects ≡ 0 → store_cost pairs objects ≡ 0
+none-gone : (boots : List Boot) (x : ℕ) (os : List ObjectDef) → total object_cost (objects_from boots x os) ≡ 0
+none-gone boots x [] = total-replicate object_cost vacant refl (ROWS - x)
+none-gone boots x (o ∷ os) = let rest = none-gone boots (x + 1) os in let still = none-running o.setup in omega (arith, rest, still)
+
+store-none : (pairs : List (List Bool)) (objects : List Object) → total flags_set pairs ≡ 0 → total object_cost objects ≡ 0 → store_cost pairs objects ≡ 0
 unfolding store_cost
 store-none pairs objects h g = omega (arith, h, g)
 
@@ -208,3 +220,34 @@ opens image lawful few =
     let o = boots-all image lawful few image.boots lawful.boots 0 (loaded image.partitions (blank image)) (loads-all image 0 image.partitions (blank image) (blank-opens image)) in
     let cost = o.cost in
     (record { lawful = rw o.image_is lawful; sized = o.sized; sound = rw o.image_is o.sound }, rw o.image_is (omega (arith, cost)))
+
+-- Deadlines: none is armed at the opening.
+
+armed-granted : (t : ℕ) (rows : List Row) (s : State) → (granted t rows s).armed ≡ s.armed
+armed-granted t [] s = refl
+armed-granted t (x ∷ rows) s = armed-granted t rows (with_pair s t x.0 true)
+
+armed-booted : (boots : List Boot) (s : State) → (booted boots s).armed ≡ s.armed
+armed-booted [] s = refl
+armed-booted (boot ∷ boots) s =
+    let t = index_or (thread_of_row s.image boot.thread.0) in
+    armed-booted boots (booted_one boot s) ∙ armed-granted t (boot.thread ∷ boot.grants) (with_thread s t (boot_thread s.image boot))
+
+armed-if : (s : State) (memory stacks : List ℕ) (b : Bool) → (if b then record s { memory = memory } else record s { stacks = stacks }).armed ≡ s.armed
+armed-if s memory stacks true = refl
+armed-if s memory stacks false = refl
+
+armed-loaded : (ps : List Partition) (s : State) → (loaded ps s).armed ≡ s.armed
+armed-loaded [] s = refl
+armed-loaded (p ∷ ps) s = armed-loaded ps (with_bytes s p.range.start.0 p.bytes) ∙ armed-if s _ _ (nat_lt p.range.start.0 STACK_AREA)
+
+armed-blank : (image : Image) → (blank image).armed ≡ []
+unfolding blank
+armed-blank image = refl
+
+armed-none : (image : Image) → (opening image).armed ≡ []
+armed-none image = armed-booted image.boots (loaded image.partitions (blank image)) ∙ armed-loaded image.partitions (blank image) ∙ armed-blank image
+
+pub opens-armings : (image : Image) → IsLawful image → length image.objects ≤ STATIC_ROWS → armings (opening image) ≤ weight image
+unfolding measure armings
+opens-armings image lawful few = let most = (opens image lawful few).1 in rw (armed-none image) (omega (arith, most))

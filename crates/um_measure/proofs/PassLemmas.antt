@@ -21,7 +21,7 @@ use Rattle.um_measure.specs.Measure.{one_if, flags_set, due_cost}
 use Rattle.um_machine.specs.Run.{ChoosesDue}
 use Rattle.um_measure.specs.Reached.{may_wait, passes_on, is_child, IsSound, IsReached}
 use Rattle.um_measure.proofs.TotalLemmas.{total-set}
-use Rattle.um_measure.proofs.EasedLemmas.{at-eased, sound-eased}
+use Rattle.um_measure.proofs.EasedLemmas.{at-eased, due-le, sound-eased}
 use Rattle.um_measure.proofs.GoesLemmas.{went-made}
 use Rattle.um_measure.proofs.MadeLemmas.{IsMade, IsReady, begun_cost, cost-pending, writes, goes, ready-rest}
 use Rattle.um_measure.proofs.StoreLemmas.{store-pair}
@@ -120,16 +120,19 @@ module _ (s : State) (reached : IsReached s) (t x : ℕ) (rest : Steps) where
         waits = subst (λ (life : Life). list_all (may_wait life) (Pending.Inherit who ∷ rest) ≡ true) (sym same.life) ready.waits;
         passes = subst (λ (child : Option ThreadIx). passes_on child (Pending.Inherit who ∷ rest) ≡ true) (sym same.child) ready.passes;
       } in
+      let before = cost-pending s.image (thread_at s t) ready.first ready.others ready.are in
+      let after-it = cost-pending s.image me (Pending.Inherit who) rest refl in
+      let begun : begun_cost s.image me.life me.place ≡ begun_cost s.image (thread_at s t).life (thread_at s t).place = rw (same.life, same.place) refl in
+      let fewer : due_cost (thread_at s2 t).child (thread_at s2 t).due ≤ due_cost (thread_at s t).child (thread_at s t).due
+      = rw same.child (due-le (thread_at s t).child (thread_at s2 t).due (thread_at s t).due same.due) in
+      let cost = ready.cost in
       writes s reached t s2 2 base me (ChoosesDue s t (Pending.Inherit who) x) sound
       (λ chosen.
       let given = given-stands s.pairs x t who.0 held reached.sized.flags child.3 in
       let stays = stays-not t who.0 (thread_at s t).child child.0 holders child.1 child.2 given in
       let zero-t : 0 + t ≡ t = omega arith in
       let less = due-less x 0 holders s.threads t chosen (rw zero-t stays) in
-      let before = cost-pending s.image (thread_at s t) ready.first ready.others ready.are in
-      let after-it = cost-pending s.image me (Pending.Inherit who) rest refl in
-      let begun : begun_cost s.image me.life me.place ≡ begun_cost s.image (thread_at s t).life (thread_at s t).place = rw (same.life, same.place) refl in
       let due = due-of-child (thread_at s t).child child.0 (thread_at s t).due child.1 in
       let due-then = due-of-child (thread_at s2 t).child child.0 (thread_at s2 t).due (same.child ∙ child.1) in
-      let cost = ready.cost in
       omega (arith, pair, less, before, after-it, begun, due, due-then, cost))
+      (omega (arith, before, after-it, begun, fewer, cost))

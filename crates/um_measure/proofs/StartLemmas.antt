@@ -12,7 +12,7 @@ use Rattle.um_machine.specs.declared.thread.Thread.{Thread}
 use Rattle.um_machine.specs.Order.{Steps}
 use Rattle.um_machine.specs.State.{State, nobody, thread_at, with_thread, first_place, next_place}
 use Rattle.um_machine.specs.Table.{after, at_steps, newborn}
-use Rattle.um_measure.specs.Measure.{total, end_cost, lines_left, thread_cost, measure}
+use Rattle.um_measure.specs.Measure.{total, end_cost, lines_left, thread_cost, measure, armings}
 use Rattle.um_measure.specs.Reached.{may_wait, IsSound, IsReached}
 use Rattle.um_measure.proofs.TotalLemmas.{total-set}
 use Rattle.um_measure.proofs.EasedLemmas.{cost-nobody, sound-set}
@@ -71,7 +71,7 @@ module _ (s : State) (reached : IsReached s) (t x : ℕ) (rest : Steps) (who : T
       (set-either s.threads who.0 New t)
 
   pub start : IsReady s t Step rest → IsMade s (after s t x Step rest) (Unit {0})
-  unfolding measure
+  unfolding measure armings
   start ready =
       let me = record (thread_at Started t) { child = None } in
       let all = sound-set s.image s.threads who.0 New new-sound reached.sound in
@@ -84,4 +84,5 @@ module _ (s : State) (reached : IsReached s) (t x : ℕ) (rest : Steps) (who : T
         sized = reached.sized;
         sound = sound-set s.image Started.threads t (at_steps s.image me rest) (sound-at_steps s.image reached.lawful me rest (all t).place waits ready.passes) all;
         falls = λ due. omega (arith, falls);
+        arms = omega (arith, falls);
       }

@@ -1,10 +1,11 @@
 -- A measure of the states of a machine, which falls with each step.
-use Rattle.std.specs.Prelude.{ℕ, zero, suc, ◌+◌, ◌-◌, ◌*◌, max, Bool, true, false, if◌then◌else◌, List, [], ◌∷◌, drop, Option, Some, None, slice_get}
+use Rattle.std.specs.Prelude.{ℕ, zero, suc, ◌+◌, ◌-◌, ◌*◌, max, Bool, true, false, if◌then◌else◌, List, [], ◌∷◌, length, drop, nat_lt, Option, Some, None, slice_get}
 use Rattle.um_base.specs.Weight.{line_cost, lines_cost, weights_from}
 use Rattle.um_base.specs.declared.image.Image.{Image}
 use Rattle.um_base.specs.declared.instr.Instr.{Instr}
 use Rattle.um_base.specs.declared.limits.TheConstants.{ROWS, THREADS}
 use Rattle.um_base.specs.declared.names.ThreadIx.{ThreadIx}
+use Rattle.um_machine.specs.declared.contents.Contents.{Contents}
 use Rattle.um_machine.specs.declared.object.Object.{Object}
 use Rattle.um_machine.specs.declared.pending.Pending.{Pending}
 use Rattle.um_machine.specs.declared.thread.Life.{Life}
@@ -55,11 +56,16 @@ abbrev pub end_cost : ℕ
 end_cost = 2 + THREADS
 
 -- what a step costs: one for itself, one more where a single step may follow in the place of those that are left, and what it adds
--- to the other costs. A fatal error is paid by the end, a drop by its pair, and an inheritance by its row
+-- to the other costs. A fatal error and a kill are paid by the end, a drop by its pair, and an inheritance by its row
 abbrev pub step_cost : Image → Pending → ℕ
 step_cost image (Pending.Check addr kind want refusal) = 2
 step_cost image (Pending.CopyStr addr) = 2
-step_cost image (Pending.Work addr ask) = 2
+step_cost image (Pending.Work addr ask) = 4
+step_cost image (Pending.Join who timeout) = 3
+step_cost image (Pending.FutexWait addr value timeout) = 3
+step_cost image (Pending.Arm ticks) = 2
+step_cost image (Pending.ArmTimer ticks) = 2
+step_cost image Pending.Killed = 0
 step_cost image (Pending.SetInit addr strict undo) = 2
 step_cost image (Pending.Buffer size) = 2
 step_cost image (Pending.Grant who addr) = 3
@@ -97,14 +103,33 @@ thread_cost image me = life_cost image me.life me.place me.pending + total (step
 
 -- States.
 
--- an object that is gone is still to be freed
-abbrev pub gone_cost : Object → ℕ
-gone_cost o = one_if (is_gone o.status)
+-- whether a timer runs
+abbrev pub is_running : Contents → Bool
+is_running (Contents.Running deadline) = true
+is_running contents = false
+
+-- an object that is gone is still to be freed, who waits on it may be taken out, and a timer that runs may run out
+abbrev pub object_cost : Object → ℕ
+object_cost o = one_if (is_gone o.status) + length o.waiters + one_if (is_running o.contents)
+
+-- how many deadlines are above a moment
+abbrev pub ahead : ℕ → List ℕ → ℕ
+ahead now [] = 0
+ahead now (d ∷ ds) = one_if (nat_lt now d) + ahead now ds
+
+-- who waits for the end of a thread or on a futex may be taken out, and time may go on to each deadline
+abbrev pub time_of : State → ℕ
+time_of s = length s.joins + length s.futexes + ahead s.now s.armed
 
 -- each pair is still to be dropped, by which its object may be gone
 unfoldable pub store_cost : List (List Bool) → List Object → ℕ
-store_cost pairs objects = 2 * total flags_set pairs + total gone_cost objects
+store_cost pairs objects = 2 * total flags_set pairs + total object_cost objects
 
 -- a bound on the events that can still come, as long as each inheritance is of a row that is due
 unfoldable pub measure : State → ℕ
-measure s = total (thread_cost s.image) s.threads + store_cost s.pairs s.objects
+measure s = total (thread_cost s.image) s.threads + store_cost s.pairs s.objects + time_of s
+
+-- a bound on the deadlines of a run: those that were armed, and what the threads have still to do, which pays for each that is to come. No step
+-- raises it
+unfoldable pub armings : State → ℕ
+armings s = length s.armed + total (thread_cost s.image) s.threads

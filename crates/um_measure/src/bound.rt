@@ -1,6 +1,6 @@
 //! How long runs are.
 
-ghost use Rattle.um_machine.specs.{State.{State}, Run.{Step, opening, ChoosesDue, RunsDue}};
+ghost use Rattle.um_machine.specs.{State.{State}, Run.{IsRun, Step, opening, ChoosesDue, RunsDue}};
 ghost use Rattle.um_base.specs.{
   declared.act.Event.{Event},
   declared.image.Image.{Image},
@@ -21,6 +21,11 @@ pub fn every_step()
     ensures opens { (image : Image) → IsLawful image → length image.objects ≤ STATIC_ROWS → IsReached (opening image) × (measure (opening image) ≤ weight image) }
     ensures keeps { (s s2 : State) (event : Event) → IsReached s → Step s event s2 → IsReached s2 }
     ensures falls { (s s2 : State) (event : Event) → IsReached s → (made : Step s event s2) → ChoosesDue s event.thread.0 made.step made.row → measure s2 < measure s }
+{}
+
+/// No run of a lawful image arms more deadlines than the weight of the image, also one in which an inheritance is of a row that isn't due.
+pub fn every_deadline()
+    ensures { (image : Image) (events : List Event) (s : State) → IsLawful image → length image.objects ≤ STATIC_ROWS → IsRun image events s → length s.armed ≤ weight image }
 {}
 
 /// No run of a lawful image in which each inheritance is of a row that is due has more events than the weight of the

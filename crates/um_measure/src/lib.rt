@@ -1,6 +1,6 @@
-//! No run of the machine has more events than the weight of its image.
+//! No run of the machine has more events, or deadlines, than the weight of its image.
 #![tactic(auto)]
 
 mod bound;
 
-pub use bound::{every_run, every_step};
+pub use bound::{every_deadline, every_run, every_step};

@@ -130,6 +130,7 @@ indices-end (o ∷ os) t h = by o.setup (and_parts _ _ h).1 (λ more. indices-en
     by (Setup.Msgq size most) more next same = same more
     by (Setup.Stack entries) more next same = same more
     by (Setup.Pipe size) more next same = same more
+    by Setup.Timer more next same = same more
     by Setup.Bare more next same = same more
 
 small-setup : (setup : Setup) (os : List ObjectDef) (t : ℕ) → has_index setup t ≡ true → has_indices os (index_after setup t) ≡ true → index_or (setup_thread setup) < THREADS
@@ -141,6 +142,7 @@ small-setup Setup.Mutex os t here more = omega arith
 small-setup (Setup.Msgq size most) os t here more = omega arith
 small-setup (Setup.Stack entries) os t here more = omega arith
 small-setup (Setup.Pipe size) os t here more = omega arith
+small-setup Setup.Timer os t here more = omega arith
 small-setup Setup.Bare os t here more = omega arith
 
 small-static : (os : List ObjectDef) (t x : ℕ) → has_indices os t ≡ true → index_or (setup_thread (slice_index_or (map (λ (o : ObjectDef). o.setup) os) x Setup.Bare)) < THREADS

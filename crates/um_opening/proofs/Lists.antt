@@ -18,7 +18,7 @@ use Rattle.um_machine.specs.State.{State, is_living, object_at, vacant}
 use Rattle.um_fine.specs.Context.{Context, context_of}
 use Rattle.um_fine.specs.Cells.{Cell}
 use Rattle.um_fine.specs.Opening.{boot_index, count, heap_cell, indexed, parked_if}
-use Rattle.um_tables.specs.Parked.{context_at, priority_at, resting, scheduler_of, told_at}
+use Rattle.um_tables.specs.Parked.{context_at, cut_at, priority_at, resting, scheduler_of, told_at}
 use Rattle.um_tables.specs.ObjectCells.{cleared}
 use Rattle.um_tables.specs.declared.object_cell.ObjectCell.{ObjectCell}
 use Rattle.um_opening.specs.Opened.{heap_of, kept_by, object_of, opened}
@@ -120,23 +120,32 @@ noted-all : (i : ℕ) (xs : List Thread) → map priority_at (indexed resting i 
 noted-all i [] = refl
 noted-all i (x ∷ xs) = ap (λ (ps : List ℤ). x.priority ∷ ps) (noted-all (i + 1) xs)
 
+cuts-none : (i : ℕ) (xs : List Thread) → map cut_at (indexed resting i xs) ≡ replicate (length xs) false
+cuts-none i [] = refl
+cuts-none i (x ∷ xs) = ap (λ (bs : List Bool). false ∷ bs) (cuts-none (i + 1) xs)
+
 pub scheduler-is : (s : State) (n : ℕ) → length s.threads ≡ n
-    → scheduler_of (map (boot_index s) s.image.boots) (indexed resting 0 s.threads) 0
+    → scheduler_of (map (boot_index s) s.image.boots) (indexed resting 0 s.threads) 0 0
     ≡ record {
       ready = map (boot_index s) s.image.boots;
       parked = indexed (λ t (me : Thread). parked_if (is_living me.life) (context_of t me)) 0 s.threads;
       told = replicate n None;
       priorities = map (λ (me : Thread). me.priority) s.threads;
+      cuts = replicate n false;
       running = 0;
+      owed = 0;
     }
 scheduler-is s n long =
     let told : map told_at (indexed resting 0 s.threads) ≡ replicate n None = told-none 0 s.threads ∙ ap (λ (k : ℕ). replicate k None) long in
+    let cuts : map cut_at (indexed resting 0 s.threads) ≡ replicate n false = cuts-none 0 s.threads ∙ ap (λ (k : ℕ). replicate {A = Bool} k false) long in
     λ i. record {
       ready = map (boot_index s) s.image.boots;
       parked = parked-all 0 s.threads i;
       told = told i;
       priorities = noted-all 0 s.threads i;
+      cuts = cuts i;
       running = 0;
+      owed = 0;
     }
 
 -- The cells of objects.

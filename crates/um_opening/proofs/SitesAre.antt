@@ -1,12 +1,11 @@
 -- What tables have at each site, by their lists.
 use Rattle.std.proofs.Common.{◌≡◌, ap, ◌∙◌, arith}
-use Rattle.std.specs.Prelude.{IsTrue, List, map, slice_index_or}
+use Rattle.std.specs.Prelude.{IsTrue, List, [], map, slice_index_or}
 use Rattle.std.proofs.lemmas.Bool.Decides.{nat_tests}
 use Rattle.um_base.specs.declared.limits.TheConstants.{DOMAINS, ROWS, THREADS}
 use Rattle.um_machine.specs.State.{State}
-use Rattle.um_fine.specs.Opening.{heap_cell, new_cell, scheduler_cell, site_state}
+use Rattle.um_fine.specs.Opening.{heap_cell, joins_cell, new_cell, no_notes, scheduler_cell, site_state}
 use Rattle.um_fine.specs.Cells.{Cell}
-use Rattle.um_fine.specs.Memory.{bytes_of}
 use Rattle.um_fine.specs.Sites.{is_site}
 use Rattle.um_fine.specs.Steps.{Site}
 use Rattle.um_tables.specs.ObjectCells.{cleared}
@@ -22,9 +21,11 @@ pub record Keeps (s : State) (t : Sited) : Type 0 where
   pub domains : AreDomains s DOMAINS t.domains
   pub parts : AreParts s DOMAINS t.domain_cells
   pub objects : t.objects ≡ map kept_by s.objects
-  pub memory : state_at t Site.memory ≡ new_cell (Cell.memory (bytes_of s))
+  pub memory : state_at t Site.memory ≡ new_cell (Cell.memory (record { memory = s.memory; stacks = s.stacks; futexes = []; noted = no_notes }))
   pub heap : state_at t Site.heap ≡ new_cell (heap_cell s)
   pub scheduler : state_at t Site.scheduler ≡ new_cell (scheduler_cell s)
+  pub clock : state_at t Site.clock ≡ new_cell (Cell.clock (record { now = 0; marks = [] }))
+  pub joins : state_at t Site.joins ≡ new_cell (joins_cell s)
 
 pub sites-are : (s : State) (t : Sited) → Keeps s t → (i : Site) → IsTrue (is_site i) → state_at t i ≡ site_state s i
 sites-are s t k (Site.row x) there = k.rows x (grind (arith, nat_tests))
@@ -36,3 +37,5 @@ sites-are s t k (Site.object x) there =
 sites-are s t k Site.memory there = k.memory
 sites-are s t k Site.heap there = k.heap
 sites-are s t k Site.scheduler there = k.scheduler
+sites-are s t k Site.clock there = k.clock
+sites-are s t k Site.joins there = k.joins

@@ -16,7 +16,7 @@ use Rattle.um_words.specs.declared.dom_word.DomWord.{DomWord}
 use Rattle.um_fine.specs.Answers.{no_domain, no_row, no_thread}
 use Rattle.um_fine.specs.Cells.{Cell}
 use Rattle.um_fine.specs.Heap.{Heap}
-use Rattle.um_fine.specs.Opening.{boot_index, domain_state, new_cell, row_state, thread_state}
+use Rattle.um_fine.specs.Opening.{boot_index, domain_state, new_cell, no_notes, row_state, thread_state}
 use Rattle.um_fine.specs.Sites.{SiteState}
 use Rattle.um_tables.specs.Contexts.{rests}
 use Rattle.um_tables.specs.ObjectCells.{cleared}
@@ -37,7 +37,7 @@ pub record IsFresh (s : State) : Type 0 where
 
 -- the cell of an object, which has taken no step
 abbrev pub kept_by : Object → ObjectCell
-kept_by o = record { contents = o.contents; waiters = o.waiters; buffer = o.buffer; steps = 0 }
+kept_by o = record { contents = o.contents; waiters = o.waiters; noted = no_notes; buffer = o.buffer; steps = 0 }
 
 -- the cell of an object that was set up so
 abbrev pub opened : Setup → ObjectCell

@@ -11,17 +11,18 @@ ghost use Rattle.um_base.specs.{
   Places.{thread_of_row},
 };
 ghost use Rattle.um_machine.specs.{Limits.{is_in_limits}, Run.{index_or, objects_from}, Table.{domain_at}};
-ghost use Rattle.um_fine.specs.{Cells.{Cell}, Opening.{boot_index, scheduler_cell}};
+ghost use Rattle.um_fine.specs.{Cells.{Cell}, Opening.{boot_index, indexed, is_shut_at, joins_cell, scheduler_cell}};
 ghost use Rattle.um_tables.specs.{Contexts.{rests}, ObjectCells.{cleared}};
 ghost use Rattle.um_opening.specs.Opened.{AreParts, heap_of, kept_by, opened};
 
+use crate::words::is_init;
 use arrayvec::ArrayVec;
 use std::alloc::Global;
 use um_base::{Boot, DOMAINS, Image, OutOfMemory, Parts, ROWS, STATIC_ROWS, Setup, THREADS};
 use um_boot::OpeningState;
 use um_steps::blank::{is_set_up, set_up};
-use um_steps::rows::thread_of_row;
-use um_tables::{DomainCell, Heap, ObjectCells, Scheduler};
+use um_steps::rows::{own_row, thread_of_row};
+use um_tables::{DomainCell, Heap, Joins, ObjectCells, Scheduler};
 
 /// The partitions of a domain.
 fn parts_of(state: &OpeningState, d: usize) -> Option<Parts>
@@ -74,7 +75,7 @@ pub fn objects(alloc: Global, image: &Image) -> Result<ObjectCells, OutOfMemory>
     Ok(cells)
 }
 
-/// What is left in the pools, the dynamic addresses, which are free, and what each object cost: none did.
+/// The heap of the opening: what is left in each pool, the dynamic addresses, all free, and what each object cost, which is nothing.
 pub fn heap(alloc: Global, pools: Vec<u32>) -> Result<Heap, OutOfMemory>
     ensures { IfOk result (λ heap. heap ≡ heap_of pools.items) }
 {
@@ -115,4 +116,24 @@ pub fn scheduler(alloc: Global, state: &OpeningState) -> Result<Scheduler, OutOf
     ensures { IfOk result (λ scheduler. Cell.scheduler scheduler ≡ scheduler_cell state.now) }
 {
     Scheduler::at_rest(alloc, ready(state), state.threads())
+}
+
+/// Which threads nobody joins: those whose object isn't initialised.
+fn shut(state: &OpeningState) -> [bool; THREADS]
+    ensures { result ≡ indexed (is_shut_at state.now) 0 state.now.threads }
+{
+    let image = state.image();
+    let threads = state.threads();
+    let mut shut = [false; THREADS];
+    for t in 0..threads.len() {
+        shut[t] = !is_init(image, own_row(image, t));
+    }
+    shut
+}
+
+/// The joins, where nobody waits or sleeps.
+pub fn joins(alloc: Global, state: &OpeningState) -> Result<Joins, OutOfMemory>
+    ensures { IfOk result (λ joins. Cell.joins joins ≡ joins_cell state.now) }
+{
+    Joins::new(alloc, shut(state))
 }

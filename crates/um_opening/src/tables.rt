@@ -7,12 +7,12 @@ ghost use Rattle.um_fine.specs.{Opening.{s_start, site_state}, Sites.{is_site}, 
 ghost use Rattle.um_tables.specs.Sited.{IsSized, state_at};
 ghost use Rattle.um_opening.specs.Opened.{IsFresh};
 
-use crate::cells::{domain_cells, heap, objects, scheduler};
+use crate::cells::{domain_cells, heap, joins, objects, scheduler};
 use crate::words::{domains, rows, threads};
 use std::alloc::Global;
 use um_base::{Image, OutOfMemory};
 use um_boot::OpeningState;
-use um_tables::{Bytes, Tables};
+use um_tables::{Bytes, Clock, Tables};
 
 /// Tables of a state in which nobody has run.
 fn tables_of(alloc: Global, state: OpeningState, most: usize) -> Result<Tables, OutOfMemory>
@@ -33,11 +33,13 @@ fn tables_of(alloc: Global, state: OpeningState, most: usize) -> Result<Tables, 
     let domain_cells = domain_cells(alloc, &state)?;
     let objects = objects(alloc, state.image())?;
     let scheduler = scheduler(alloc, &state)?;
+    let joins = joins(alloc, &state)?;
     let parts = state.into_parts();
-    let memory = Bytes::new(parts.memory, parts.stacks);
+    let memory = Bytes::new(alloc, parts.memory, parts.stacks)?;
     let heap = heap(alloc, parts.pools)?;
     let log = Vec::with_capacity(alloc, most)?;
-    Ok(Tables::new(
+    let clock = Clock::new(alloc, log.capacity())?;
+    let tables = Tables::new(
         rows,
         threads,
         domains,
@@ -47,11 +49,15 @@ fn tables_of(alloc: Global, state: OpeningState, most: usize) -> Result<Tables, 
         memory,
         heap,
         scheduler,
+        clock,
+        joins,
         log,
-    ))
+    );
+    Ok(tables)
 }
 
-/// Makes the tables of an image at its opening: the words and cells of all sites, the read-only data, and room for at least `most` events.
+/// Makes the tables of an image at its opening: the words and cells of all sites, the read-only data, and room for at least `most`
+/// events and as many marks.
 pub fn opening(alloc: Global, image: &Image, most: usize) -> Result<Tables, OutOfMemory>
     requires lawful { IsLawful image.now }
     ensures sites { IfOk result (λ t. (i : Site) → IsTrue (is_site i) → state_at t i ≡ s_start image.now i) }

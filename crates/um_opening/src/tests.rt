@@ -169,6 +169,7 @@ fn image(alloc: Global) -> Result<Image, OutOfMemory>
         objects: objects(alloc)?,
         boots: boots(alloc)?,
         scripts: scripts(alloc)?,
+        futexes: BoundedVec::new(alloc),
     })
 }
 

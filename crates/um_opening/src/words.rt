@@ -55,7 +55,7 @@ fn stage_of(image: &Image, x: usize) -> Stage
 }
 
 /// Whether the object of a row is initialised.
-fn is_init(image: &Image, x: usize) -> bool
+pub fn is_init(image: &Image, x: usize) -> bool
     ensures { result ≡ (object_of image.now.boots x (slice_get image.now.objects x)).init }
 {
     match image.objects.as_slice().get(x) {
@@ -139,6 +139,9 @@ fn thread_word(state: &OpeningState, t: usize) -> ThreadWord
         held: false,
         mode: me.mode,
         domain: me.domain,
+        aborted: false,
+        suspended: false,
+        note: None,
         number: 0,
     }
 }

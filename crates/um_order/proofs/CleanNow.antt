@@ -10,10 +10,11 @@ use Rattle.um_base.specs.Places.{own_row}
 use Rattle.um_machine.specs.declared.object.Object.{Object}
 use Rattle.um_machine.specs.declared.pending.Pending.{Pending}
 use Rattle.um_machine.specs.Objects as Plain
-use Rattle.um_machine.specs.Run.{MayChoose, MayClean, is_tending}
+use Rattle.um_machine.specs.Run.{MayChoose, MayClean}
 use Rattle.um_machine.specs.State.{State, object_at, thread_at, vacant}
 use Rattle.um_invariants.proofs.Claims.{claims as claims_child}
 use Rattle.um_invariants.proofs.Cores.{Call, call_is}
+use Rattle.um_invariants.specs.InOrder.{is_cleaning}
 use Rattle.um_words.specs.declared.row_word.Stage.{Stage}
 use Rattle.um_words.specs.Rows.{is_dying}
 use Rattle.um_fine.specs.Context.{Context}
@@ -48,7 +49,7 @@ module _ (f : Fine) (m : State) (rel : Rel f m) (sound : IsSound m) (orderly : A
     flag-holds : (t : ℕ) → t < THREADS → slice_index_or (thread_at m t).checked x false ≡ true → Plain.is_held m x ≡ true
     flag-holds t l here = held-by t l (ap (λ b. b || ((thread_at m t).keeps_own && (own_row m.image t == x))) here)
 
-    part-holds : (c : Context) → IsOf m c → 0 < occurs x c.claims → Plain.is_held m x ≡ true
+    part-holds : (c : Context) → IsOf f m c → 0 < occurs x c.claims → Plain.is_held m x ≡ true
     part-holds c of some =
         flag-holds c.thread of.index (ap (λ (flags : List Bool). slice_index_or flags x false) of.claims ∙ occurs-flagged x c.claims few some)
 
@@ -150,7 +151,7 @@ module _ (f : Fine) (m : State) (rel : Rel f m) (sound : IsSound m) (orderly : A
           false≢true (sym (ap (λ (o : Object). Plain.is_gone o.status) (outside m.objects x vacant (omega (arith, many, more)))) ∙ may.0)
 
   -- so no step that cleans may be chosen
-  pub none-chosen : (t x : ℕ) (q : Pending) → is_tending q ≡ true → MayChoose m t x q → ⊥
+  pub none-chosen : (t x : ℕ) (q : Pending) → is_cleaning q ≡ true → MayChoose m t x q → ⊥
   none-chosen t x (Pending.CleanPair who) h may = none-cleans t (own_row m.image who.0) may.0
   none-chosen t x Pending.Recycle h may = none-cleans t x may.0
   none-chosen t x q h may = false≢true h

@@ -1,383 +1,65 @@
 -- Every lawful step of the one processor keeps `IsFull`: what its thread has still to pass on or to drop is due.
-use Rattle.std.proofs.Common.{Bool, List, None, Option, Some, [], ap, arith, false, length, map, refl, subst, suc, sym, true, zero, ℕ, ◌+◌, ◌<◌, ◌∙◌, ◌∷◌, ◌≡◌, ◌≢◌, ◌≤◌}
-use Rattle.std.proofs.lemmas.Bool.{eqb-false, eqb-true, false≢true, true≢false, not-true}
-use Rattle.std.proofs.lemmas.List.{get_or-set_other, get_or-set_same}
-use Rattle.std.specs.Prelude.{if◌then◌else◌, nat_lt, not, slice_index_or, slice_set, ◌&&◌, ◌==◌, ◌||◌}
+use Rattle.std.proofs.Common.{Bool, None, Option, Some, [], ap, arith, false, length, refl, subst, sym, true, ℕ, ◌+◌, ◌<◌, ◌∙◌, ◌∷◌, ◌≡◌, ◌≢◌, inl, inr}
+use Rattle.std.proofs.lemmas.Bool.{false≢true, true≢false, not-true}
+use Rattle.std.specs.Prelude.{if◌then◌else◌, not, slice_index_or, ◌&&◌, ◌==◌, ◌||◌}
 use Rattle.um_base.specs.Lawful.{IsLawful}
 use Rattle.um_base.specs.Places.{own_row}
-use Rattle.um_base.specs.declared.act.Act.{Act}
-use Rattle.um_base.specs.declared.act.Leftover.{Leftover}
 use Rattle.um_base.specs.declared.ask.Told.{Told}
-use Rattle.um_base.specs.declared.image.Image.{Image}
-use Rattle.um_base.specs.declared.limits.TheConstants.{THREADS}
-use Rattle.um_base.specs.declared.names.Policy.{Policy}
-use Rattle.um_base.specs.declared.names.Reply.{Reply}
 use Rattle.um_base.specs.declared.names.ThreadIx.{ThreadIx}
-use Rattle.um_machine.proofs.EffectLemmas.{effects_of}
-use Rattle.um_machine.specs.Goes.{Next, Way, at_end, gone, went, told_way}
-use Rattle.um_machine.specs.Order.{Steps, end_steps, fatal_steps, steps_of, to_thread}
-use Rattle.um_machine.specs.Run.{MayClean, Offers}
-use Rattle.um_machine.specs.State.{State, nobody, pair_at, thread_at, with_pair, with_thread}
-use Rattle.um_machine.specs.Writes.{Edit, Effect, drops as drop_writes, effect, only, was_given, wrote}
+use Rattle.um_machine.specs.Order.{Steps, end_steps, fatal_steps, to_thread}
+use Rattle.um_machine.specs.Run.{MayChoose, MayClean, Offers}
+use Rattle.um_machine.specs.State.{State, thread_at}
+use Rattle.um_machine.specs.Writes.{Edit, Effect, effect}
 use Rattle.um_machine.specs.declared.pending.Pending.{Pending}
 use Rattle.um_machine.specs.declared.thread.Thread.{Thread}
 use Rattle.um_invariants.proofs.Claims.{claims as claims_child}
 use Rattle.um_invariants.proofs.Cores.{Call, call_is}
-use Rattle.um_invariants.proofs.ThreadSteps.{plain-steps}
 use Rattle.um_invariants.proofs.ThreadWords.{AreKept, are_plain}
 use Rattle.um_invariants.specs.InOrder.{Point}
 use Rattle.um_words.specs.declared.fine.FineAct.{FineAct}
-use Rattle.um_fine.specs.Answers.{act_in}
-use Rattle.um_fine.specs.Asks.{begins_cleaning}
-use Rattle.um_fine.specs.Context.{Context, as_thread}
-use Rattle.um_fine.specs.Continues.{came_in, continues, gone_part, resumed, resumed_at}
-use Rattle.um_fine.specs.Follows.{after_show, after_take, dropped_at}
-use Rattle.um_fine.specs.Places.{Todo, Todos}
+use Rattle.um_fine.specs.Answers.{act_in, thread_in}
+use Rattle.um_fine.specs.Asks.{begins_cleaning, says_turn}
+use Rattle.um_fine.specs.Context.{Context}
+use Rattle.um_fine.specs.Continues.{continues, resumed, resumed_at}
+use Rattle.um_fine.specs.Follows.{after_show, after_take, dropped_at, shown_step}
+use Rattle.um_fine.specs.Places.{Todo, Todos, put_away}
+use Rattle.um_fine.specs.Scheduler.{is_cut, takes_turn, to_kill, waits}
 use Rattle.um_fine.specs.Steps.{Exchange, FineStep}
-use Rattle.um_refinement.proofs.CallSteps.{Proper}
-use Rattle.um_refinement.proofs.CallsProper.{AreProper}
-use Rattle.um_refinement.proofs.ChildSteps.{Creates, InOrder, order-steps}
-use Rattle.um_refinement.proofs.ChildrenKnown.{AllCreate, Stands, offered-stands}
+use Rattle.um_refinement.proofs.ChildSteps.{Creates, InOrder}
+use Rattle.um_refinement.proofs.ChildrenKnown.{AllCreate, offered-stands}
 use Rattle.um_refinement.proofs.ClaimRoom.{child-claims}
 use Rattle.um_refinement.proofs.CleanSteps.{Calls, OwnRows}
-use Rattle.um_refinement.proofs.ContextsPart.{is_shown, now-context, quiet-context}
+use Rattle.um_refinement.proofs.ContextsPart.{is_shown, now-context, quiet-context, ran, take-context}
 use Rattle.um_refinement.proofs.Continued.{continues-thread}
-use Rattle.um_refinement.proofs.DuesFilled.{child-below, created, offers-plain, resumes-plain, still-steps, way-still}
+use Rattle.um_refinement.proofs.DuesFilled.{child-below, created, offers-plain, resumes-plain}
 use Rattle.um_refinement.proofs.Erased.{around}
 use Rattle.um_refinement.proofs.IdleComplete.{one-holds}
-use Rattle.um_refinement.proofs.Leaves.{HasStep, Lawful, Leaves, cleans, drops, event, nothing, passes, recycles, resumes}
+use Rattle.um_refinement.proofs.Leaves.{Beside, HasStep, Lawful, Leaves, beside, cleans, drops, event, nothing, passes, recycles, resumes}
 use Rattle.um_refinement.proofs.ListGrowth.{is_end}
-use Rattle.um_refinement.proofs.ListRuns.{ends-rests}
-use Rattle.um_refinement.proofs.Offered.{Shows, own-part, shown-offers}
-use Rattle.um_refinement.proofs.PartsElsewhere.{taken-parked}
+use Rattle.um_refinement.proofs.ListRuns.{ends-rests, takes-none}
+use Rattle.um_refinement.proofs.Offered.{Shows, by-made, own-unless, runs-first, shown-offers, shows-runs}
+use Rattle.um_refinement.proofs.Taking.{Idles as Takes, IsTaken, idles as idles-by, taken-parked, taken-uncut, takes, tends}
 use Rattle.um_refinement.proofs.Reachable.{sound-held}
 use Rattle.um_refinement.proofs.SchedulerSteps.{made-says}
-use Rattle.um_refinement.proofs.StepsLeft.{steps-on}
-use Rattle.um_refinement.proofs.ThreadLists.{at-here, dues-long}
-use Rattle.um_refinement.proofs.VisitSteps.{Visits, visit-part}
+use Rattle.um_refinement.proofs.StepsLeft.{is_first, steps-on}
+use Rattle.um_refinement.proofs.VisitSteps.{Visits, visit-part, visit-runs}
 use Rattle.um_refinement.proofs.WordsKept.{IsShown}
 use Rattle.um_refinement.specs.Dues.{is_visiting}
 use Rattle.um_refinement.specs.Fine.{Fine, scheduler}
-use Rattle.um_refinement.specs.Lists.{has_steps, runs, visited}
-use Rattle.um_refinement.specs.Offers.{Fits, is_over}
+use Rattle.um_refinement.specs.Lists.{has_steps, runs, times, visited}
+use Rattle.um_refinement.specs.Offers.{IsPutBack, is_over}
 use Rattle.um_refinement.specs.Threads.{IsOf, IsRun}
-use Rattle.um_order.proofs.QuietSteps.{is_rest, over-rests, rest-offered}
-use Rattle.um_order.proofs.Standing.{Idles, IsFull}
-use Rattle.um_order.proofs.TakeOrder.{take-opens}
+use Rattle.um_order.proofs.EventLines.{own-is}
+use Rattle.um_order.proofs.ParkedThreads.{over-rests}
+use Rattle.um_order.proofs.Standing.{IsFull}
 use Rattle.um_machine.specs.Table as T
 use Rattle.um_machine.specs.Objects as Plain
 use Rattle.um_order.proofs.CleanOrder.{may-clean}
+use Rattle.um_order.proofs.FullFacts.{Quiet, still-full, waits-quiet, is_begin, opens_visits, continued-quiet, order-of, stands-creates, ended-full, fatal-full, given-full, same-full, drops-full, passes-full, cleans-full, resumed-quiet}
 
--- These steps don't begin with permissions to pass on or to drop.
-
-abbrev Quiet : Steps → Type 0
-Quiet steps = is_visiting steps ≡ false
-
-still-full : (m : State) (t : ℕ) (steps : Steps) → Quiet steps → IsFull m t steps
-still-full m t [] h = tt
-still-full m t (Pending.Inherit who ∷ rest) h = absurd (true≢false h)
-still-full m t (Pending.Drops from ∷ rest) h = absurd (true≢false h)
-still-full m t (q ∷ rest) h = tt
-
-abbrev is_begin : Pending → Bool
-is_begin Pending.Begin = true
-is_begin q = false
-
--- the steps behind which permissions are passed on or dropped
-abbrev opens_visits : Pending → Bool
-opens_visits (Pending.Own who) = true
-opens_visits Pending.Exit = true
-opens_visits (Pending.Fatal reason cause) = true
-opens_visits q = false
-
-module _ (image : Image) (c : Context) where
-  -- the ways to go on behind which no permissions are passed on or dropped
-  abbrev IsPlain : Next → Type 0
-  IsPlain (Next.begins instr) = Quiet c.pending
-  IsPlain (Next.creates who) = ⊥
-  IsPlain (Next.resumes told) = ⊥
-  IsPlain (Next.inherits who) = ⊥
-  IsPlain (Next.drops from) = ⊥
-  IsPlain Next.exits = ⊥
-  IsPlain (Next.fatal reason) = ⊥
-  IsPlain Next.stays = ⊥
-  IsPlain next = Unit {0}
-
-  doom-quiet : (from : ℕ) → Quiet (T.next_doom from)
-  doom-quiet from = elim (nat_lt (from + 1) THREADS) as (λ b. Quiet (if b then Pending.Dooms (from + 1) ∷ [] else [])) [ true ↦ refl | false ↦ refl ]
-
-  gone-quiet : (rest : Steps) (next : Next) → IsPlain next → are_plain rest ≡ true → InOrder rest → Quiet (gone_part image rest next c).pending
-  gone-quiet rest (Next.on change way) fits h o = way-still image c rest way h o
-  gone-quiet rest (Next.checks x v way) fits h o = way-still image c rest way h o
-  gone-quiet rest (Next.answers to reply) fits h o = still-steps image c rest h o
-  gone-quiet rest (Next.owns keeps) fits h o = still-steps image c rest h o
-  gone-quiet rest Next.starts fits h o = still-steps image c rest h o
-  gone-quiet rest (Next.begins None) fits h o = fits
-  gone-quiet rest (Next.begins (Some instr)) fits h o =
-      still-steps image c (steps_of image c.thread (as_thread c) instr) (plain-steps image c.thread (as_thread c) instr) (order-steps image c.thread (as_thread c) instr)
-  gone-quiet rest (Next.dooms from) fits h o = doom-quiet from
-  gone-quiet rest (Next.enters script) fits h o = refl
-  gone-quiet rest next fits h o = absurd fits
-
-  next-plain : (q : Pending) (act : Act) (came : List ℕ) → IsShown q → opens_visits q ≡ false → (q ≡ Pending.Begin → Quiet c.pending)
-      → IsPlain (T.continues image c.thread (as_thread c) 0 q act came)
-  next-plain Pending.Begin act came shown plain was = was refl
-  next-plain Pending.Exit act came shown plain was = absurd (true≢false plain)
-  next-plain (Pending.Own who) act came shown plain was = absurd (true≢false plain)
-  next-plain (Pending.Fatal reason cause) act came shown plain was = absurd (true≢false plain)
-  next-plain Pending.Resume act came shown plain was = absurd shown
-  next-plain (Pending.Inherit who) act came shown plain was = absurd shown
-  next-plain (Pending.Drops from) act came shown plain was = absurd shown
-  next-plain (Pending.CleanPair who) act came shown plain was = absurd shown
-  next-plain Pending.Recycle act came shown plain was = absurd shown
-  next-plain q act came shown plain was = tt
-
-  continued-quiet : (q : Pending) (rest : Steps) (act : Act) (moved : Exchange) → IsShown q → opens_visits q ≡ false → (q ≡ Pending.Begin → Quiet c.pending) → are_plain rest ≡ true → InOrder rest
-      → Quiet (continues image c 0 q rest act moved).pending
-  continued-quiet q rest act moved shown plain was h o =
-      let came = came_in q moved in gone-quiet rest (T.continues image c.thread (as_thread c) 0 q act came) (next-plain q act came shown plain was) h o
-
--- The end of a thread makes each of its permissions due.
-
-mapped : (f : List Bool → Bool) (pairs : List (List Bool)) (x : ℕ) → f (slice_index_or pairs x []) ≡ true → (f [] ≡ false) → slice_index_or (map f pairs) x false ≡ true
-mapped f [] x h none = absurd (true≢false (sym h ∙ none))
-mapped f (flags ∷ pairs) zero h none = h
-mapped f (flags ∷ pairs) (suc x) h none = mapped f pairs x h none
-
-order-of : (child : Option ThreadIx) (q : Pending) (rest : Steps) → IsShown q → opens_visits q ≡ false → Creates child (q ∷ rest) → InOrder rest
-order-of child (Pending.Own who) rest shown plain h = absurd (true≢false plain)
-order-of child Pending.Exit rest shown plain h = absurd (true≢false plain)
-order-of child (Pending.Fatal reason cause) rest shown plain h = absurd (true≢false plain)
-order-of child Pending.Resume rest shown plain h = absurd shown
-order-of child (Pending.Inherit who) rest shown plain h = absurd shown
-order-of child (Pending.Drops from) rest shown plain h = absurd shown
-order-of child (Pending.CleanPair who) rest shown plain h = absurd shown
-order-of child Pending.Recycle rest shown plain h = absurd shown
-order-of child q rest shown plain h = h.1
-
-stands-creates : (m : State) (t x : ℕ) (all : AllCreate m) (q : Pending) (rest : Steps) → IsShown q → Stands m t x all q rest → Creates (thread_at m t).child (q ∷ rest)
-stands-creates m t x all (Pending.CleanPair who) rest shown h = absurd shown
-stands-creates m t x all Pending.Recycle rest shown h = absurd shown
-stands-creates m t x all q rest shown h = h
-
-module _ (m : State) (t : ℕ) (few : t < length m.threads) where
-  -- so it does where the thread drops them all next
-  ended-full : (steps left : Steps) → IsFull (with_thread m t (at_end m t (thread_at m t) steps)) t (Pending.Drops 0 ∷ left)
-  ended-full steps left x low has =
-      ap (λ (z : Thread). slice_index_or z.due x false) (at-here m.threads t (at_end m t (thread_at m t) steps) few) ∙ mapped (λ (flags : List Bool). slice_index_or flags t false) m.pairs x has refl
-
-  fatal-full : (image : Image) (c : Context) (reason : ℕ) (policy : Policy) (steps : Steps)
-      → IsFull (with_thread m t (at_end m t (thread_at m t) steps)) t (fatal_steps image c.thread (as_thread c) reason policy)
-  fatal-full image c reason Policy.Halt steps = tt
-  fatal-full image c reason Policy.Abort steps = by (reason == 4)
-    where
-      by : (b : Bool) → IsFull (with_thread m t (at_end m t (thread_at m t) steps)) t (if b then Pending.Dooms 0 ∷ [] else end_steps image c.thread (as_thread c))
-      by true = tt
-      by false = ended-full steps []
-
-  -- when the new thread has got the permission on its own object, each permission that it may inherit is due
-  own-due : (s : State) → t < length s.threads → (who w : ThreadIx) → w ≡ who → (rest more : Steps) → IsFull (went rest s t (Next.creates who)) t (Pending.Inherit w ∷ more)
-  own-due s room who w same rest more x has lacks apart =
-      let lacking : pair_at s who.0 x ≡ false = ap (λ (z : ThreadIx). pair_at s z.0 x) (sym same) ∙ lacks in
-      ap (λ (z : Thread). slice_index_or z.due x false) (at-here s.threads t (gone rest s t (Next.creates who) (thread_at s t)) room)
-      ∙ (get_or-set_other (T.rows_to_pass s t who.0) (own_row s.image t) x false false apart
-      ∙ mapped (λ (holders : List Bool). slice_index_or holders t false && not (slice_index_or holders who.0 false)) s.pairs x (λ i. has i && not (lacking i)) refl)
-
-  given-full : (who : ThreadIx) (rest : Steps) → InOrder (Pending.Own who ∷ rest) → IsFull (T.after m t 0 (Pending.Own who) rest) t rest
-  given-full who (Pending.Inherit w ∷ Pending.Start u script stack priority mode ∷ rest) h =
-      own-due (wrote (effects_of m t 0 (Pending.Own who)) m) (room (was_given (T.given m y))) who w h.0 (Pending.Inherit w ∷ Pending.Start u script stack priority mode ∷ rest)
-      (Pending.Start u script stack priority mode ∷ rest)
-    where
-      y : ℕ
-      y = own_row m.image who.0
-
-      room : (b : Bool) → t < length (wrote (only b (Effect.pair who.0 y true) ∷ []) m).threads
-      room false = few
-      room true = let long = dues-long y 0 (slice_index_or (with_pair m who.0 y true).pairs y []) m.threads in omega (arith, few, long)
-  given-full who (Pending.Inherit w ∷ rest) h = absurd h
-  given-full who (Pending.Start u script stack priority mode ∷ rest) h = tt
-  given-full who rest h = absurd h
-
--- A change of a permission on one row changes no permission on another row, and nothing that is due there.
-
-due-else : (x y i : ℕ) (holders : List Bool) (ts : List Thread) (t : ℕ) → y ≢ x → slice_index_or (slice_index_or (T.with_dues x i holders ts) t nobody).due y false ≡ slice_index_or (slice_index_or ts t nobody).due y false
-due-else x y i holders [] t ne = refl
-due-else x y i holders (me ∷ ts) zero ne = get_or-set_other me.due x y _ false ne
-due-else x y i holders (me ∷ ts) (suc t) ne = due-else x y (i + 1) holders ts t ne
-
-pair-else : (s : State) (u x v y : ℕ) (b : Bool) → y ≢ x → pair_at (with_pair s u x b) v y ≡ pair_at s v y
-pair-else s u x v y b ne = ap (λ (row : List Bool). slice_index_or row v false) (get_or-set_other s.pairs x y _ [] ne)
-
--- the state after a drop
-abbrev dropped : State → ℕ → ℕ → Leftover → State
-dropped s u x l = wrote (drop_writes u x l) s
-
-record IsElse (s z : State) (v y : ℕ) : Type 0 where
-  pair : pair_at z v y ≡ pair_at s v y
-  due : slice_index_or (thread_at z v).due y false ≡ slice_index_or (thread_at s v).due y false
-  long : length z.threads ≡ length s.threads
-
-dropped-else : (s : State) (u x v y : ℕ) (l : Leftover) → y ≢ x → IsElse s (dropped s u x l) v y
-dropped-else s u x v y Leftover.NoPair ne = record { pair = refl; due = refl; long = refl }
-dropped-else s u x v y Leftover.Kept ne =
-    record { pair = pair-else s u x v y false ne; due = due-else x y 0 _ s.threads v ne; long = dues-long x 0 (slice_index_or (with_pair s u x false).pairs x []) s.threads }
-dropped-else s u x v y Leftover.Gone ne =
-    record { pair = pair-else s u x v y false ne; due = due-else x y 0 _ s.threads v ne; long = dues-long x 0 (slice_index_or (with_pair s u x false).pairs x []) s.threads }
-
-same-full : (m s : State) (t : ℕ) (steps : Steps) → s.pairs ≡ m.pairs → s.threads ≡ m.threads → s.image ≡ m.image → IsFull m t steps → IsFull s t steps
-same-full m s t steps pairs threads image h =
-    subst (λ (z : List (List Bool) × List Thread × Image). IsFull (record s { pairs = z.0; threads = z.1; image = z.2 }) t steps) (λ i. (sym pairs i, sym threads i, sym image i)) (there steps h)
-  where
-    there : (steps : Steps) → IsFull m t steps → IsFull (record s { pairs = m.pairs; threads = m.threads; image = m.image }) t steps
-    there [] h = tt
-    there (Pending.Inherit who ∷ rest) h = h
-    there (Pending.Drops from ∷ rest) h = h
-    there (q ∷ rest) h = tt
-
-module _ (m : State) (t : ℕ) (few : t < length m.threads) where
-  -- a thread drops a permission at its end
-  drops-full : (x from : ℕ) (rest left : Steps) → IsFull m t (Pending.Drops from ∷ rest) → from ≤ x → IsFull (T.after m t x (Pending.Drops from) rest) t (Pending.Drops (x + 1) ∷ left)
-  drops-full x from rest left full low y more has =
-      let ne : y ≢ x = λ q. absurd (omega (arith, more, q)) in
-      let is = dropped-else m t x t y (T.dropped m t x) ne in
-      let s = dropped m t x (T.dropped m t x) in
-      let was = full y (omega (arith, low, more)) (sym is.pair ∙ has) in
-      ap (λ (z : Thread). slice_index_or z.due y false) (at-here s.threads t (record (thread_at s t) { pending = Pending.Drops (x + 1) ∷ rest }) (let long = is.long in omega (arith, long, few))) ∙ (is.due ∙ was)
-
-  -- a permission is inherited: the child has it then
-  passes-full : (who : ThreadIx) (x : ℕ) (rest left : Steps) → x < length m.pairs → who.0 < length (slice_index_or m.pairs x []) → IsFull m t (Pending.Inherit who ∷ left)
-      → IsFull (T.after m t x (Pending.Inherit who) rest) t (Pending.Inherit who ∷ left)
-  passes-full who x rest left wide child full y has lacks apart = by (y == x) refl
-    where
-      s : State
-      s = T.paired m who.0 x true
-
-      gives : pair_at (with_pair m who.0 x true) who.0 x ≡ true
-      gives = ap (λ (row : List Bool). slice_index_or row who.0 false) (get_or-set_same m.pairs x (slice_set (slice_index_or m.pairs x []) who.0 true) [] wide) ∙ get_or-set_same (slice_index_or m.pairs x []) who.0 true false child
-
-      by : (b : Bool) → (y == x) ≡ b → slice_index_or (thread_at (T.after m t x (Pending.Inherit who) rest) t).due y false ≡ true
-      by true e = absurd (true≢false (sym gives ∙ (ap (λ z. pair_at (with_pair m who.0 x true) who.0 z) (sym (eqb-true y x e)) ∙ lacks)))
-      by false e =
-          let ne = eqb-false y x e in
-          let was = full y (sym (pair-else m who.0 x t y true ne) ∙ has) (sym (pair-else m who.0 x who.0 y true ne) ∙ lacks) apart in
-          let z = T.paired m who.0 x true in
-          let long = dues-long x 0 (slice_index_or (with_pair m who.0 x true).pairs x []) m.threads in
-          ap (λ (th : Thread). slice_index_or th.due y false) (at-here z.threads t (record (thread_at z t) { pending = Pending.Inherit who ∷ rest }) (omega (arith, long, few)))
-          ∙ (due-else x y 0 (slice_index_or (with_pair m who.0 x true).pairs x []) m.threads t ne ∙ was)
-
--- A permission of another thread is dropped, whose object is cleaned.
-
-set-at : (xs : List Bool) (x : ℕ) (b : Bool) → slice_index_or xs x false ≡ true → slice_index_or (slice_set xs x b) x false ≡ b
-set-at [] x b h = absurd (false≢true h)
-set-at (a ∷ xs) zero b h = refl
-set-at (a ∷ xs) (suc x) b h = set-at xs x b h
-
-set-false : (xs : List Bool) (x : ℕ) → slice_index_or (slice_set xs x false) x false ≡ false
-set-false [] x = refl
-set-false (a ∷ xs) zero = refl
-set-false (a ∷ xs) (suc x) = set-false xs x
-
-due-here : (x i : ℕ) (holders : List Bool) (ts : List Thread) (t : ℕ) → slice_index_or (slice_index_or ts t nobody).due x false ≡ true → T.stays_due (i + t) (slice_index_or ts t nobody).child holders ≡ true
-    → slice_index_or (slice_index_or (T.with_dues x i holders ts) t nobody).due x false ≡ true
-due-here x i holders [] t d s = d
-due-here x i holders (me ∷ ts) zero d s =
-    let same : i + 0 ≡ i = omega arith in
-    set-at me.due x _ d ∙ λ j. d j && (subst (λ n. T.stays_due n me.child holders ≡ true) same s) j
-due-here x i holders (me ∷ ts) (suc t) d s =
-    let same : i + suc t ≡ i + 1 + t = omega arith in
-    due-here x (i + 1) holders ts t d (subst (λ n. T.stays_due n (slice_index_or ts t nobody).child holders ≡ true) same s)
-
-module _ (s : State) (u x : ℕ) (wide : x < length s.pairs) where
-  row-is : slice_index_or (with_pair s u x false).pairs x [] ≡ slice_set (slice_index_or s.pairs x []) u false
-  row-is = get_or-set_same s.pairs x (slice_set (slice_index_or s.pairs x []) u false) [] wide
-
-  -- a thread that has the permission after the drop had it before
-  pair-before : (v : ℕ) → pair_at (with_pair s u x false) v x ≡ true → pair_at s v x ≡ true
-  pair-before v has = by (v == u) refl
-    where
-      now : slice_index_or (slice_set (slice_index_or s.pairs x []) u false) v false ≡ true
-      now = ap (λ (row : List Bool). slice_index_or row v false) (sym row-is) ∙ has
-
-      by : (b : Bool) → (v == u) ≡ b → pair_at s v x ≡ true
-      by true e = absurd (false≢true (sym (set-false (slice_index_or s.pairs x []) u) ∙ (ap (λ n. slice_index_or (slice_set (slice_index_or s.pairs x []) u false) n false) (sym (eqb-true v u e)) ∙ now)))
-      by false e = sym (get_or-set_other (slice_index_or s.pairs x []) u v false false (eqb-false v u e)) ∙ now
-
-  pair-other : (v : ℕ) → v ≢ u → pair_at (with_pair s u x false) v x ≡ pair_at s v x
-  pair-other v ne = ap (λ (row : List Bool). slice_index_or row v false) row-is ∙ get_or-set_other (slice_index_or s.pairs x []) u v false false ne
-
-  -- what a thread has to drop at its end stays due, and so does what it passes on to a child other than u
-  drops-left : (t from : ℕ) (rest : Steps) (l : Leftover) → (thread_at s t).child ≡ None → IsFull s t (Pending.Drops from ∷ rest) → IsFull (dropped s u x l) t (Pending.Drops from ∷ rest)
-  drops-left t from rest l none full y low has = by (y == x) refl
-    where
-      paired-row : pair_at (with_pair s u x false) t x ≡ true → from ≤ x → slice_index_or (thread_at (T.paired s u x false) t).due x false ≡ true
-      paired-row k few =
-          due-here x 0 (slice_index_or (with_pair s u x false).pairs x []) s.threads t (full x few (pair-before t k)) (ap (λ o. T.stays_due (0 + t) o (slice_index_or (with_pair s u x false).pairs x [])) none ∙ at k)
-        where
-          at : pair_at (with_pair s u x false) t x ≡ true → slice_index_or (slice_index_or (with_pair s u x false).pairs x []) (0 + t) false ≡ true
-          at k = let same : 0 + t ≡ t = omega arith in ap (λ n. slice_index_or (slice_index_or (with_pair s u x false).pairs x []) n false) same ∙ k
-
-      at-row : (l : Leftover) → pair_at (dropped s u x l) t x ≡ true → from ≤ x → slice_index_or (thread_at (dropped s u x l) t).due x false ≡ true
-      at-row Leftover.NoPair k few = full x few k
-      at-row Leftover.Kept k few = paired-row k few
-      at-row Leftover.Gone k few = paired-row k few
-
-      by : (b : Bool) → (y == x) ≡ b → slice_index_or (thread_at (dropped s u x l) t).due y false ≡ true
-      by true e =
-          let same = eqb-true y x e in
-          subst (λ n. slice_index_or (thread_at (dropped s u x l) t).due n false ≡ true) (sym same) (at-row l (subst (λ n. pair_at (dropped s u x l) t n ≡ true) same has) (subst (λ n. from ≤ n) same low))
-      by false e = let is = dropped-else s u x t y l (eqb-false y x e) in is.due ∙ full y low (sym is.pair ∙ has)
-
-  inherits-left : (t : ℕ) (w : ThreadIx) (rest : Steps) (l : Leftover) → (thread_at s t).child ≡ Some w → w.0 ≢ u → IsFull s t (Pending.Inherit w ∷ rest) → IsFull (dropped s u x l) t (Pending.Inherit w ∷ rest)
-  inherits-left t w rest l child other full y has lacks apart = by (y == x) refl
-    where
-      image-is : (l : Leftover) → (dropped s u x l).image ≡ s.image
-      image-is Leftover.NoPair = refl
-      image-is Leftover.Kept = refl
-      image-is Leftover.Gone = refl
-
-      apart-there : y ≢ own_row s.image t
-      apart-there q = apart (q ∙ ap (λ (i : Image). own_row i t) (sym (image-is l)))
-
-      paired-row : pair_at (with_pair s u x false) t x ≡ true → pair_at (with_pair s u x false) w.0 x ≡ false → x ≢ own_row s.image t
-          → slice_index_or (slice_index_or (T.with_dues x 0 (slice_index_or (with_pair s u x false).pairs x []) s.threads) t nobody).due x false ≡ true
-      paired-row k none ne =
-          due-here x 0 (slice_index_or (with_pair s u x false).pairs x []) s.threads t (full x (pair-before t k) (sym (pair-other w.0 other) ∙ none) ne)
-          (ap (λ o. T.stays_due (0 + t) o (slice_index_or (with_pair s u x false).pairs x [])) child ∙ at t k)
-        where
-          at : (t : ℕ) → pair_at (with_pair s u x false) t x ≡ true
-              → (slice_index_or (slice_index_or (with_pair s u x false).pairs x []) (0 + t) false && not (slice_index_or (slice_index_or (with_pair s u x false).pairs x []) w.0 false)) ≡ true
-          at t k =
-              let same : 0 + t ≡ t = omega arith in
-              ap (λ n. slice_index_or (slice_index_or (with_pair s u x false).pairs x []) n false && not (slice_index_or (slice_index_or (with_pair s u x false).pairs x []) w.0 false)) same ∙ λ i. k i && not (none i)
-
-      at-row : (l : Leftover) → pair_at (dropped s u x l) t x ≡ true → pair_at (dropped s u x l) w.0 x ≡ false → x ≢ own_row s.image t → slice_index_or (thread_at (dropped s u x l) t).due x false ≡ true
-      at-row Leftover.NoPair k none ne = full x k none ne
-      at-row Leftover.Kept k none ne = paired-row k none ne
-      at-row Leftover.Gone k none ne = paired-row k none ne
-
-      by : (b : Bool) → (y == x) ≡ b → slice_index_or (thread_at (dropped s u x l) t).due y false ≡ true
-      by true e =
-          let same = eqb-true y x e in
-          subst (λ n. slice_index_or (thread_at (dropped s u x l) t).due n false ≡ true) (sym same)
-          (at-row l (subst (λ n. pair_at (dropped s u x l) t n ≡ true) same has) (subst (λ n. pair_at (dropped s u x l) w.0 n ≡ false) same lacks) (λ q. apart-there (same ∙ q)))
-      by false e =
-          let ne = eqb-false y x e in
-          let is = dropped-else s u x t y l ne in
-          let child-is = dropped-else s u x w.0 y l ne in is.due ∙ full y (sym is.pair ∙ has) (sym child-is.pair ∙ lacks) apart-there
-
-  cleans-full : (t : ℕ) (steps : Steps) (l : Leftover) → Creates (thread_at s t).child steps → ((w : ThreadIx) (rest : Steps) → steps ≡ Pending.Inherit w ∷ rest → w.0 ≢ u) → IsFull s t steps → IsFull (dropped s u x l) t steps
-  cleans-full t [] l c other full = tt
-  cleans-full t (Pending.Inherit w ∷ rest) l c other full = inherits-left t w rest l (created (thread_at s t).child w rest c) (other w rest refl) full
-  cleans-full t (Pending.Drops from ∷ rest) l c other full = drops-left t from rest l c.0 full
-  cleans-full t (q ∷ rest) l c other full = tt
-
--- a woken thread doesn't pass on or drop permissions next
-resumed-quiet : (image : Image) (c : Context) (told : Told) (rest : Steps) → are_plain rest ≡ true → InOrder rest → Quiet (resumed_at image c told (Pending.Resume ∷ rest)).pending
-resumed-quiet image c told rest plain order = way-still image c rest (told_way told.reply) plain order
-
-module _ (f : Fine) (at : Point) (e : FineStep) (law : Lawful f at.state e) (one : f.cpus ≡ 1) (kept : AreKept at.state) (orderly : AllCreate at.state) (proper : AreProper at.state.image at.state) (lawful : IsLawful at.state.image)
+module _ (f : Fine) (at : Point) (e : FineStep) (law : Lawful f at.state e) (one : f.cpus ≡ 1) (kept : AreKept at.state) (orderly : AllCreate at.state) (lawful : IsLawful at.state.image)
     (calls : Calls at.state) (own : OwnRows f.image)
-    (idle : (f.processors e.cpu).todo ≡ [] → Idles (f.processors e.cpu) (scheduler f) at)
+    (besides : (t x : ℕ) (q : Pending) → Beside f at.state e t x q → MayChoose at.state t x q → runs (around f e).now ≡ true → IsFull (T.after at.state t x q (thread_at at.state t).pending) (around f e).now.context.thread (around f e).now.context.pending)
     (was : runs (f.processors e.cpu) ≡ true → IsFull at.state (f.processors e.cpu).context.thread (f.processors e.cpu).context.pending) where
   open around f e use {later, processor as p, now}
 
@@ -397,42 +79,68 @@ module _ (f : Fine) (at : Point) (e : FineStep) (law : Lawful f at.state e) (one
   quiet-full quiet on = by p.todo refl
     where
       over : (q : Todo) (todo : Todos) → p.todo ≡ q ∷ todo → is_end q ≡ true → begins_cleaning e ≡ false → ⊥
-      over q todo list ends none = false≢true (sym (ap has_steps (ends-rests f.image p e q todo list ends none)) ∙ on)
+      over q todo list ends none = false≢true (sym (ap (λ (z : Todos). has_steps z && not (times z)) (ends-rests f.image p e q todo list ends none)) ∙ on)
+
+      put-back : (c : Context) → IsPutBack c → is_visiting c.pending ≡ false
+      put-back c (inl none) = ap is_visiting none
+      put-back c (inr waiting) = waits-quiet c.pending waiting
+
+      killed-quiet : (b : Bool) (c : Context) → IsPutBack c → is_visiting (to_kill b c).pending ≡ false
+      killed-quiet true c put = refl
+      killed-quiet false c put = put-back c put
+
+      untold : (first : IsTaken f e) → (o : Option Told) → first.told ≡ o → o ≡ None
+      untold first None h = refl
+      untold first (Some w) h =
+          absurd (true≢false (ap (λ o. is_shown (takes_turn (to_kill (is_cut (scheduler f) first.thread) first.parked) o)) (sym h)
+          ∙ (ap is_shown (sym (first.said ∙ ap (says_turn f.image p) first.moved)) ∙ quiet)))
+
+      taken : p.todo ≡ [] → Takes f e → Full m
+      taken list (takes first) =
+          let c = to_kill (is_cut (scheduler f) first.thread) first.parked in
+          let moved = first.moved ∙ ap (Exchange.thread c) (untold first first.told refl) in
+          carry m c (now-context f m e law [] list ∙ (ap (λ (mv : Exchange). (after_take f.image p mv).context) moved ∙ take-context f.image p c))
+          (still-full m c.thread c.pending (killed-quiet (is_cut (scheduler f) first.thread) first.parked (law.rel.contexts.parked first.thread first.parked first.there).3))
+      taken list (tends is) = absurd (false≢true (sym (takes-none f.image p e list is.other is.quiet) ∙ on))
 
       by : (todo : Todos) → p.todo ≡ todo → Full m
-      by [] list = still-full m now.context.thread now.context.pending (ap is_visiting (take-opens f at e law one orderly (idle list) quiet).rests)
+      by [] list = taken list (idles-by f m e law list)
       by (Todo.park ∷ todo) list = absurd (over Todo.park todo list refl (ap (λ (a : FineAct). begins_cleaning (record e { act = a })) (made-says f m e law (Todo.park ∷ todo) list)))
       by (Todo.done ∷ todo) list = absurd (over Todo.done todo list refl (ap (λ (a : FineAct). begins_cleaning (record e { act = a })) (made-says f m e law (Todo.done ∷ todo) list)))
-      by (q ∷ todo) list = carry m p.context (quiet-context f m e law q todo list refl quiet) (was (ap has_steps list))
+      by (Todo.paid ∷ todo) list = absurd (over Todo.paid todo list refl (ap (λ (a : FineAct). begins_cleaning (record e { act = a })) (made-says f m e law (Todo.paid ∷ todo) list)))
+      by (Todo.sleep ∷ todo) list = subst (λ (z : Context). IsFull m z.thread z.pending) (sym (now-context f m e law (Todo.sleep ∷ todo) list)) tt
+      by (q ∷ todo) list =
+          let kept = quiet-context f m e law q todo list refl refl quiet in
+          subst (λ (z : Context). IsFull m z.thread z.pending) (sym kept.1) (was (ran f m e law q todo list refl on))
 
-  room : has_steps p.todo ≡ true → t < length m.threads
+  room : runs p ≡ true → t < length m.threads
   room on = let many = law.sound.wide.threads in let index = (law.rel.contexts.running e.cpu law.by.named on).index in omega (arith, index, many)
 
   -- an event of a pending step
-  module _ (q : Pending) (rest : Steps) (todo : Todos) (x : ℕ) (h : Shows f m e.cpu e q rest todo) (shown : IsShown q) where
+  module _ (q : Pending) (rest : Steps) (todo : Todos) (x : ℕ) (h : Shows f m e.cpu e q rest todo) (shown : IsShown q) (chosen : MayChoose m t x q) where
     context : now.context ≡ continues f.image p.context 0 q rest (act_in e.act) e.moved
     context =
-        now-context f m e law (Todo.show q rest ∷ todo) h.at
-        ∙ ap (λ b. (if b then record p { todo = Todo.done ∷ [] } else after_show f.image p e q rest todo).context) h.shown
+        now-context f m e law (Todo.show h.listed rest ∷ todo) h.at
+        ∙ (ap (λ b. (if b then record p { todo = put_away (thread_in e.word).doomed } else after_show f.image p e (shown_step f.image h.listed e.act) rest todo).context) h.shown
+        ∙ ap (λ r. (after_show f.image p e r rest todo).context) h.made)
 
     plain-full : opens_visits q ≡ false → IsFull (T.after m t x q rest) now.context.thread now.context.pending
     plain-full plain =
         let steps = offers-plain m kept t q rest shown (shown-offers h) in
-        let order = order-of (thread_at m t).child q rest shown plain (stands-creates m t x orderly q rest shown (offered-stands m t x orderly q rest (shown-offers h))) in
+        let order = order-of (thread_at m t).child q rest shown plain (stands-creates m t x orderly q rest shown (offered-stands m t x orderly q rest chosen (shown-offers h))) in
         still-full (T.after m t x q rest) now.context.thread now.context.pending
         (ap (λ (c : Context). is_visiting c.pending) context
         ∙ continued-quiet f.image p.context q rest (act_in e.act) e.moved shown plain begin steps order)
       where
-        steps-proper : Proper f.image (thread_at m t).checked p.context.pending
-        steps-proper =
-            subst (λ (i : Image). Proper i (thread_at m t).checked p.context.pending) law.rel.image
-            (subst (Proper m.image (thread_at m t).checked) (sym (ap (λ (z : Thread). z.pending) (own-part h).own)) (proper t).0)
-
         -- a thread that begins a line has no step left
         begin : q ≡ Pending.Begin → Quiet p.context.pending
         begin b =
             ap is_visiting
-            (rest-offered f.image (thread_at m t).checked p.context (subst (Fits f.image p.context) h.at (law.rel.processors e.cpu law.by.named).list.fits).0 (ap is_rest b) steps-proper)
+            (by-made h (λ z. is_begin z ≡ true → p.context.pending ≡ []) (λ killed k. h.at_rest (begin-first h.listed k)) (λ killed stopping k. absurd (false≢true k)) (ap is_begin b))
+          where
+            begin-first : (z : Pending) → is_begin z ≡ true → is_first z ≡ true
+            begin-first Pending.Begin k = refl
+            begin-first z k = absurd (false≢true k)
 
     event-full : IsFull (T.after m t x q rest) now.context.thread now.context.pending
     event-full = by q refl
@@ -449,10 +157,11 @@ module _ (f : Fine) (at : Point) (e : FineStep) (law : Lawful f at.state e) (one
         by : (r : Pending) → q ≡ r → IsFull (T.after m t x q rest) now.context.thread now.context.pending
         by (Pending.Own who) w =
             there (Pending.Own who) w
-            (given-full m t (room (ap has_steps h.at)) who rest
-            (stands-creates m t x orderly (Pending.Own who) rest tt (offered-stands m t x orderly (Pending.Own who) rest (subst (λ z. Offers m t z rest) w (shown-offers h)))).1)
-        by Pending.Exit w = there Pending.Exit w (ended-full m t (room (ap has_steps h.at)) (end_steps m.image t (thread_at m t)) [])
-        by (Pending.Fatal reason cause) w = there (Pending.Fatal reason cause) w (fatal-full m t (room (ap has_steps h.at)) f.image p.context reason f.image.policy (fatal_steps m.image t (thread_at m t) reason m.image.policy))
+            (given-full m t (room (shows-runs h)) who rest
+            (stands-creates m t x orderly (Pending.Own who) rest tt (offered-stands m t x orderly (Pending.Own who) rest (subst (MayChoose m t x) w chosen) (subst (λ z. Offers m t z rest) w (shown-offers h)))).1)
+        by Pending.Killed w = there Pending.Killed w (ended-full m t (room (shows-runs h)) (end_steps m.image t (thread_at m t)) [])
+        by Pending.Exit w = there Pending.Exit w (ended-full m t (room (shows-runs h)) (end_steps m.image t (thread_at m t)) [])
+        by (Pending.Fatal reason cause) w = there (Pending.Fatal reason cause) w (fatal-full m t (room (shows-runs h)) f.image p.context reason f.image.policy (fatal_steps m.image t (thread_at m t) reason m.image.policy))
         by r w = plain-full (ap opens_visits w)
 
   -- A permission of a thread is dropped, whose object is cleaned. No thread passes permissions on to that one: its object would be held.
@@ -479,7 +188,7 @@ module _ (f : Fine) (at : Point) (e : FineStep) (law : Lawful f at.state e) (one
 
         held : Plain.is_held m (own_row m.image who) ≡ true
         held =
-            let few = room (ap has_steps h.at) in
+            let few = room (visit-runs h (λ hand. hand)) in
             let at : 0 + t ≡ t = omega arith in
             one-holds m.image (own_row m.image who) 0 m.threads t few
             (subst (λ n. Plain.thread_holds m.image (own_row m.image who) n (thread_at m t) ≡ true) (sym at)
@@ -488,24 +197,27 @@ module _ (f : Fine) (at : Point) (e : FineStep) (law : Lawful f at.state e) (one
     clean-full : Full (T.after m t x (Pending.CleanPair (to_thread who)) rest)
     clean-full = carry s2 p.context (now-context f m e law (Todo.clean_pair who x ∷ todo) h.at) (by (is_over p.context) refl)
       where
-        run : IsRun m p.context
-        run = visit-part h
+        run : IsRun f m p.context
+        run = visit-part h (λ hand. hand)
 
         wide : x < length m.pairs
         wide = let rows = law.sound.wide.rows in let few = h.few in omega (arith, rows, few)
 
         by : (b : Bool) → is_over p.context ≡ b → IsFull s2 t p.context.pending
         by true o = still-full s2 t p.context.pending (ap is_visiting (over-rests p.context o))
-        by false o =
-            let of = run.of o in
-            let pending : p.context.pending ≡ (thread_at m t).pending = ap (λ (z : Thread). z.pending) of.own in
-            let m2 = effect (Effect.object (own_row m.image who) (Edit.cleaned (to_thread t))) m in
-            cleans-full m2 who x wide t p.context.pending (T.dropped m who x) (subst (Creates (thread_at m t).child) (sym pending) (orderly t))
-            (λ w more e. child-apart w more (sym pending ∙ e)) (same-full m m2 t p.context.pending refl refl refl (was (ap has_steps h.at)))
+        by false o = which (waits p.context.pending) refl
+          where
+            which : (w : Bool) → waits p.context.pending ≡ w → IsFull s2 t p.context.pending
+            which true waiting = still-full s2 t p.context.pending (waits-quiet p.context.pending waiting)
+            which false awake =
+                let pending : p.context.pending ≡ (thread_at m t).pending = ap (λ (z : Thread). z.pending) (own-unless (run.of o) awake) in
+                let m2 = effect (Effect.object (own_row m.image who) (Edit.cleaned (to_thread t))) m in
+                cleans-full m2 who x wide t p.context.pending (T.dropped m who x) (subst (Creates (thread_at m t).child) (sym pending) (orderly t))
+                (λ w more e. child-apart w more (sym pending ∙ e)) (same-full m m2 t p.context.pending refl refl refl (was (visit-runs h (λ hand. hand))))
 
   pub full-kept : (s : State) (leaves : Leaves f m e s) → HasStep f m e s leaves → runs now ≡ true → Full s
   full-kept _ (nothing u said) has on = quiet-full (ap is_shown said) on
-  full-kept _ (event q rest todo x h shown is) has on = event-full q rest todo x h shown
+  full-kept _ (event q rest todo x h shown is) has on = event-full q rest todo x h shown is.chosen
   full-kept _ (resumes c told rest list moved said) has on =
       carry (T.after m c.thread 0 Pending.Resume rest) (resumed f.image c told) context
       (still-full (T.after m c.thread 0 Pending.Resume rest) (resumed f.image c told).thread (resumed f.image c told).pending
@@ -514,11 +226,11 @@ module _ (f : Fine) (at : Point) (e : FineStep) (law : Lawful f at.state e) (one
       context : now.context ≡ resumed f.image c told
       context = now-context f m e law [] list ∙ ap (λ z. (after_take f.image p z).context) moved
 
-      of : IsOf m c
-      of = (law.rel.contexts.parked c.thread c (taken-parked f m e law list c (Some told) moved)).0
+      of : IsOf f m c
+      of = (law.rel.contexts.parked c.thread c (taken-parked f m e law list c told moved)).0
 
       pending : (thread_at m c.thread).pending ≡ Pending.Resume ∷ rest
-      pending = sym (ap (λ (z : Thread). z.pending) of.own) ∙ has
+      pending = sym (ap (λ (z : Thread). z.pending) (own-is f m c of (taken-uncut f m e law list c told moved of.index))) ∙ has
 
       plain : are_plain rest ≡ true
       plain = resumes-plain m kept c.thread rest pending
@@ -526,23 +238,24 @@ module _ (f : Fine) (at : Point) (e : FineStep) (law : Lawful f at.state e) (one
       order : InOrder rest
       order = (subst (Creates (thread_at m c.thread).child) pending (orderly c.thread)).1
   full-kept _ (passes who x rest todo h said) has on =
-      let own = subst (λ steps. IsFull m t steps) has (was (ap has_steps h.at)) in
-      let of = (visit-part h).of (steps-on p.context _ _ has) in
-      let machine = sym (ap (λ (z : Thread). z.pending) of.own) ∙ has in
+      let own = subst (λ steps. IsFull m t steps) has (was (visit-runs h (λ hand. hand))) in
+      let of = (visit-part h (λ hand. hand)).of (steps-on p.context _ _ has) in
+      let machine = sym (ap (λ (z : Thread). z.pending) (own-unless of (ap waits has))) ∙ has in
       let low = child-below m law.sound lawful orderly t (to_thread who) rest machine in
       let rows = law.sound.wide.rows in
       let few = h.few in
       let flags = law.sound.wide.flags x h.few in
       carry (T.after m t x (Pending.Inherit (to_thread who)) rest) p.context (now-context f m e law (Todo.pass who x ∷ todo) h.at)
       (subst (λ steps. IsFull (T.after m t x (Pending.Inherit (to_thread who)) rest) t steps) (sym has)
-      (passes-full m t (room (ap has_steps h.at)) (to_thread who) x rest rest (omega (arith, rows, few)) (omega (arith, flags, low)) own))
+      (passes-full m t (room (visit-runs h (λ hand. hand))) (to_thread who) x rest rest (omega (arith, rows, few)) (omega (arith, flags, low)) own))
   full-kept _ (drops from x rest todo h said) has on =
-      let own = subst (λ steps. IsFull m t steps) has (was (ap has_steps h.at)) in
-      let least = (law.rel.processors e.cpu law.by.named).dues.drops from rest (ap has_steps h.at) has in
+      let own = subst (λ steps. IsFull m t steps) has (was (visit-runs h (λ hand. hand))) in
+      let least = (law.rel.processors e.cpu law.by.named).dues.drops from rest (visit-runs h (λ hand. hand)) has in
       let is : visited p.todo ≡ x = ap visited h.at in
       carry (T.after m t x (Pending.Drops from) rest) (dropped_at f.image p.context x false) (now-context f m e law (Todo.drop x ∷ todo) h.at ∙ ap (dropped_at f.image p.context x) h.shown)
-      (drops-full m t (room (ap has_steps h.at)) x from rest [] own (omega (arith, least, is)))
+      (drops-full m t (room (visit-runs h (λ hand. hand))) x from rest [] own (omega (arith, least, is)))
   full-kept _ (cleans who x rest todo h said) has on = clean-full who x rest todo h
   full-kept _ (recycles x rest todo list few said chosen) has on =
       carry (T.after m t x Pending.Recycle rest) p.context (now-context f m e law (Todo.recycle x ∷ todo) list)
-      (same-full m (T.after m t x Pending.Recycle rest) t p.context.pending refl refl refl (was (ap has_steps list)))
+      (same-full m (T.after m t x Pending.Recycle rest) t p.context.pending refl refl refl (was (runs-first law.rel law.by.named (Todo.recycle x) todo list (λ hand. hand))))
+  full-kept _ (beside t x q how chosen started) has on = besides t x q how chosen on

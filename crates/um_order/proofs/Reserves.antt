@@ -6,12 +6,14 @@ use Rattle.um_base.specs.declared.image.Image.{Image}
 use Rattle.um_base.specs.declared.limits.TheConstants.{ROWS, STATIC_ROWS}
 use Rattle.um_base.specs.declared.names.Addr.{Addr}
 use Rattle.um_base.specs.declared.names.Kind.{Kind}
+use Rattle.um_base.specs.declared.names.ThreadIx.{ThreadIx}
+use Rattle.um_base.specs.declared.names.Timeout.{Timeout}
 use Rattle.um_base.specs.Places.{row_at}
 use Rattle.um_machine.specs.declared.pending.Pending.{Pending}
 use Rattle.um_machine.specs.Order.{Steps}
 use Rattle.um_machine.specs.Run.{MayChoose, is_free_for}
 use Rattle.um_machine.specs.State.{State}
-use Rattle.um_invariants.specs.NextSteps.{MayTake}
+use Rattle.um_invariants.specs.NextSteps.{IsLeast, MayTake}
 use Rattle.um_fine.specs.Addresses.{address_of, address_or}
 use Rattle.um_fine.specs.Answers.{act_in, reserved_in}
 use Rattle.um_fine.specs.Asks.{shows}
@@ -25,7 +27,7 @@ use Rattle.um_refinement.proofs.HeapSteps.{heap-sort, least-found, open-free}
 use Rattle.um_refinement.proofs.Leaves.{Lawful}
 use Rattle.um_refinement.proofs.Offered.{IsStep, Shows, act-is, says-at, site-is}
 use Rattle.um_refinement.proofs.WordsKept.{IsShown}
-use Rattle.um_order.proofs.NextSteps.{ReservesLeast}
+use Rattle.um_order.proofs.NextSteps.{ChoosesLeast}
 
 -- the search for a free address finds the least one
 least-before : (h : Heap) (kind : Kind) (n x z y : ℕ) → least_open h kind x n ≡ Some z → x ≤ y → y < z → is_open h kind y ≡ false
@@ -90,7 +92,7 @@ module _ (f : Fine) (m : State) (e : FineStep) (law : Lawful f m e) (kind : Kind
       by true a = found (least_open (heap f) kind 0 ROWS) refl (sym a ∙ said)
       by false a = false≢true (ap is_some (sym a ∙ said))
 
-  pub reserve-least : ReservesLeast m t x (Pending.Reserve kind)
+  pub reserve-least : ChoosesLeast m t x (Pending.Reserve kind)
   reserve-least = ((is.chosen, tt), λ y less may. by is.chosen y less may)
     where
       by : MayChoose m t x (Pending.Reserve kind) → (y : ℕ) → y < x → MayTake m t (Pending.Reserve kind) y → ⊥
@@ -101,8 +103,10 @@ module _ (f : Fine) (m : State) (e : FineStep) (law : Lawful f m e) (kind : Kind
           other (inl two) = least-is one.1 y less two.1
           other (inr two) = true≢false (sym one.1 ∙ two.1 one.0 x)
 
--- the same for any pending step
-pub reserves-least : (f : Fine) (m : State) (e : FineStep) (q : Pending) (rest : Steps) (todo : Todos) (x : ℕ) → Lawful f m e → Shows f m e.cpu e q rest todo → IsShown q → IsStep f m e.cpu e x q
-    → ReservesLeast m (f.processors e.cpu).context.thread x q
-reserves-least f m e (Pending.Reserve kind) rest todo x law h shown is = reserve-least f m e law kind rest todo x h is
-reserves-least f m e q rest todo x law h shown is = tt
+-- the same for any pending step, but for a join, which is shown elsewhere
+pub chooses-least : (f : Fine) (m : State) (e : FineStep) (q : Pending) (rest : Steps) (todo : Todos) (x : ℕ) → Lawful f m e → Shows f m e.cpu e q rest todo → IsShown q → IsStep f m e.cpu e x q
+    → ((who : ThreadIx) (timeout : Timeout) → q ≡ Pending.Join who timeout → IsLeast m (f.processors e.cpu).context.thread (Pending.Join who timeout) x)
+    → ChoosesLeast m (f.processors e.cpu).context.thread x q
+chooses-least f m e (Pending.Reserve kind) rest todo x law h shown is joins = reserve-least f m e law kind rest todo x h is
+chooses-least f m e (Pending.Join who timeout) rest todo x law h shown is joins = joins who timeout refl
+chooses-least f m e q rest todo x law h shown is joins = tt

@@ -1,73 +1,69 @@
--- A thread is taken from the ready list: the first behind those that stand still. It begins a line or exits, or resumes, or is given up.
-use Rattle.std.proofs.Common.{◌≡◌, ◌⊎◌, inl, inr, ℕ, suc, ◌<◌, Bool, true, false, [], ◌∷◌, ◌++◌, map, length, drop, Option, Some, None, refl, sym, ap, ◌∙◌, subst, arith, append_assoc}
+-- A woken thread is taken from the ready list, the first behind those that stand still, and resumes.
+use Rattle.std.proofs.Common.{◌≡◌, ◌⊎◌, inl, inr, ℕ, suc, ◌<◌, Bool, true, false, [], ◌∷◌, ◌++◌, map, length, drop, Some, None, refl, sym, ap, ◌∙◌, subst, arith}
 use Rattle.std.specs.Prelude.{◌==◌, ◌&&◌, ◌||◌, not, if◌then◌else◌, is_some, slice_get}
-use Rattle.std.specs.List.{list_any}
-use Rattle.std.proofs.lemmas.Bool.{false≢true, true≢false}
+use Rattle.std.specs.List.{list_all, list_any}
+use Rattle.std.proofs.lemmas.Bool.{and_parts, true≢false}
 use Rattle.std.proofs.lemmas.Bool.Decides.{nat_tests}
 use Rattle.um_base.specs.declared.act.Act.{Act}
 use Rattle.um_base.specs.declared.ask.Told.{Told}
-use Rattle.um_base.specs.declared.image.Image.{Image}
-use Rattle.um_base.specs.declared.instr.Instr.{Instr}
 use Rattle.um_machine.specs.declared.pending.Pending.{Pending}
 use Rattle.um_machine.specs.declared.thread.Thread.{Thread}
+use Rattle.um_machine.specs.Goes.{Next, gone, went}
 use Rattle.um_machine.specs.Order.{Steps, to_thread}
 use Rattle.um_machine.specs.Services.{is_empty}
-use Rattle.um_machine.specs.State.{State, instruction_at, thread_at}
+use Rattle.um_machine.specs.State.{State, thread_at}
 use Rattle.um_machine.specs.Table as T
-use Rattle.um_invariants.specs.NextSteps.{IsNext, first_or, rest_step}
 use Rattle.um_invariants.specs.InOrder.{Point}
+use Rattle.um_invariants.specs.NextSteps.{IsNext, first_or, rest_step}
 use Rattle.um_invariants.specs.Ready.{behind_next, is_still, next_ready, running_or}
 use Rattle.um_words.specs.declared.fine.FineAct.{FineAct}
 use Rattle.um_words.specs.declared.fine.More.{More}
-use Rattle.um_words.specs.declared.fine.Unseen.{Unseen}
+use Rattle.um_fine.specs.Asks.{begins_cleaning}
+use Rattle.um_fine.specs.Clock.{Clock}
 use Rattle.um_fine.specs.Context.{Context}
-use Rattle.um_fine.specs.Answers.{is_word_read}
-use Rattle.um_fine.specs.Asks.{begins_cleaning, says_idle}
 use Rattle.um_fine.specs.Continues.{resumed}
-use Rattle.um_fine.specs.Follows.{after_show, after_take}
-use Rattle.um_fine.specs.Places.{Todo, end_of_turn, next_steps, turn, turn_of}
+use Rattle.um_fine.specs.Follows.{after_take, goes_on_by, with_actor}
+use Rattle.um_fine.specs.Places.{end_of_turn, next_steps}
 use Rattle.um_fine.specs.Processor.{Processor}
-use Rattle.um_fine.specs.Scheduler.{Scheduler, parked_at, takes_turn, told_at}
+use Rattle.um_fine.specs.Scheduler.{Scheduler, is_cut, told_at}
 use Rattle.um_fine.specs.Sites.{same_site}
 use Rattle.um_fine.specs.Steps.{Exchange, FineStep, Site}
-use Rattle.um_refinement.specs.Fine.{Fine, one_if, scheduler}
-use Rattle.um_refinement.specs.Lists.{has_steps, is_done}
-use Rattle.um_refinement.specs.Offers as O
-use Rattle.um_refinement.specs.Offers.{Fits, is_over}
+use Rattle.um_refinement.specs.Fine.{Fine, clock, scheduler}
+use Rattle.um_refinement.specs.Lists.{has_steps, runs}
 use Rattle.um_refinement.specs.Relation.{Rel}
-use Rattle.um_refinement.specs.Threads.{IsOf, IsRun, is_ready_there, occurs}
+use Rattle.um_refinement.specs.Threads.{IsOf, cutters as cuts}
+use Rattle.um_refinement.proofs.AwayPart.{none-left}
 use Rattle.um_refinement.proofs.Bounds.{AreBounded}
 use Rattle.um_refinement.proofs.ChildrenKnown.{AllCreate}
-use Rattle.um_refinement.proofs.ContextsPart.{is_shown, read-only}
+use Rattle.um_refinement.proofs.ClockSteps.{clock-else}
+use Rattle.um_refinement.proofs.Continued.{Held, resumed-held}
+use Rattle.um_refinement.proofs.CuttersKept.{cutters-taken}
 use Rattle.um_refinement.proofs.Erased.{around}
 use Rattle.um_refinement.proofs.Leaves.{Lawful}
 use Rattle.um_refinement.proofs.ListAdders.{takes-adders}
-use Rattle.um_refinement.proofs.Continued.{Held, resumed-held}
-use Rattle.um_refinement.proofs.ListDone.{take-ends}
-use Rattle.um_refinement.proofs.ListRuns.{ends-rests, takes-runs}
-use Rattle.um_refinement.proofs.ListTails.{exact-next}
-use Rattle.um_refinement.proofs.ListWakes.{takes-wakers}
-use Rattle.um_refinement.proofs.OfVisits.{of-resumes, scheduler-tells}
-use Rattle.um_refinement.proofs.PartsElsewhere.{IsTaken, taken-parked, taken-told, takes-first}
-use Rattle.um_refinement.proofs.ResumeSteps.{TellsWaiters}
-use Rattle.um_refinement.proofs.RunningPart.{todo-elsewhere}
-use Rattle.um_refinement.proofs.SchedulerSteps.{made-at, made-says, sched-else, sched-later}
-use Rattle.um_refinement.proofs.ThreadLists.{at-here}
-use Rattle.um_order.proofs.Follow.{Followed, follow}
-use Rattle.um_order.proofs.ReadyLines.{behind-skips, next-skips, occurs-first, still-push}
-use Rattle.um_order.proofs.Standing.{Idles, Opens, is_opening, is_show, woken_of}
-use Rattle.um_order.proofs.ListShapes.{is_own}
 use Rattle.um_refinement.proofs.ListClaims.{IsThread}
-use Rattle.um_refinement.proofs.AwayPart.{none-left}
-use Rattle.um_machine.specs.Goes.{Next, gone, went}
+use Rattle.um_refinement.proofs.ListDone.{says_done, take-ends}
+use Rattle.um_refinement.proofs.ListRuns.{takes-runs}
+use Rattle.um_refinement.proofs.ListTails.{exact-next}
+use Rattle.um_refinement.proofs.ListWakes.{takes-wakers, wakers}
+use Rattle.um_refinement.proofs.OfVisits.{of-resumes, scheduler-tells}
+use Rattle.um_refinement.proofs.ResumeSteps.{TellsWaiters}
+use Rattle.um_refinement.proofs.Taking.{IsTaken, kill-thread, taken-index, taken-parked, taken-told, taken-uncut, takes-first}
+use Rattle.um_refinement.proofs.ThreadLists.{at-here}
+use Rattle.um_order.proofs.ArmingOrder.{Passed, Plain}
+use Rattle.um_order.proofs.EventLines.{own-is}
+use Rattle.um_order.proofs.Follow.{Followed, follow}
+use Rattle.um_order.proofs.ListCalm.{calm-expands, cuts-expands}
+use Rattle.um_order.proofs.ListShapes.{is_own}
+use Rattle.um_order.proofs.ReadyLines.{behind-skips, next-skips}
+use Rattle.um_order.proofs.Standing.{Idles, cutters, is_calm, is_show, woken_of}
 
 not-zero : (n : ℕ) → (suc n == 0) ≡ false
 not-zero n = grind (arith, nat_tests)
 
--- a thread at rest begins a line, or exits
-turn-opens : (image : Image) (o : Option Instr) → (first : Todo) × (turn_of image o ≡ first ∷ []) × (is_opening first ≡ true)
-turn-opens image None = (Todo.show Pending.Exit [], refl, refl)
-turn-opens image (Some instr) = (Todo.show Pending.Begin [], refl, refl)
+-- the steps of a list are at least one where it shows anything
+has-one : (p : Processor) → runs p ≡ true → has_steps p.todo ≡ true
+has-one p h = (and_parts (has_steps p.todo) _ h).0
 
 module _ (f : Fine) (at : Point) (e : FineStep) (law : Lawful f at.state e) (one : f.cpus ≡ 1) (orderly : AllCreate at.state) where
   open around f e use {later, processor as p, now}
@@ -78,173 +74,37 @@ module _ (f : Fine) (at : Point) (e : FineStep) (law : Lawful f at.state e) (one
   abbrev s : Scheduler
   s = scheduler f
 
-  -- A thread at rest is taken.
-
-  pub take-opens : Idles p s at → is_shown e.act ≡ false → Opens now (scheduler later) at
-  take-opens was quiet = by first.told refl
-    where
-      first : IsTaken f e
-      first = takes-first f m e law was.list
-
-      said : e.act ≡ says_idle f.image p e.moved
-      said = made-says f m e law [] was.list
-
-      act-is : e.act ≡ takes_turn first.context first.told
-      act-is = said ∙ ap (says_idle f.image p) first.moved
-
-      by : (told : Option Told) → first.told ≡ told → Opens now (scheduler later) at
-      by (Some w) h = absurd (true≢false (ap (λ o. is_shown (takes_turn first.context o)) (sym h) ∙ (ap is_shown (sym act-is) ∙ quiet)))
-      by None h =
-          record {
-            first = opening.0;
-            list = ap (λ (z : Processor). z.todo) next ∙ opening.1;
-            is = opening.2;
-            rests = ap (λ (z : Processor). z.context.pending) next ∙ rests parked.3;
-            on = ap (λ (z : Processor). z.context.ended) next ∙ parked.2;
-            skipped = was.skipped;
-            still = was.still;
-            ready = was.ready ∙ ap (λ z. was.skipped ++ z) (first.ready ∙ λ i. (sym first.same ∙ ap (λ (z : Processor). z.context.thread) (sym next)) i ∷ sym list i);
-            inside = was.inside;
-          }
-        where
-          c : Context
-          c = first.context
-
-          moved : e.moved ≡ Exchange.thread first.context None
-          moved = first.moved ∙ ap (Exchange.thread first.context) h
-
-          quiet-act : begins_cleaning e ≡ false
-          quiet-act = ap (λ (a : FineAct). begins_cleaning (record e { act = a })) (act-is ∙ ap (takes_turn first.context) h)
-
-          next : now ≡ record p { context = first.context; todo = turn f.image first.context }
-          next = exact-next f.image p e [] was.list quiet-act ∙ ap (after_take f.image p) moved
-
-          opening : (q : Todo) × (turn f.image first.context ≡ q ∷ []) × (is_opening q ≡ true)
-          opening = turn-opens f.image (instruction_at f.image first.context.place)
-
-          lies : parked_at s first.context.thread ≡ Some first.context
-          lies = taken-parked f m e law was.list first.context None moved
-
-          parked : IsOf m first.context × (first.context.thread ≡ first.context.thread) × (first.context.ended ≡ false) × O.IsPutBack first.context
-          parked = law.rel.contexts.parked first.context.thread first.context lies
-
-          untold : told_at s first.context.thread ≡ None
-          untold = ap (told_at s) first.same ∙ (sym first.tells ∙ h)
-
-          stands : occurs first.context.thread s.ready ≡ one_if (is_ready_there (Some first.context) None)
-          stands = (law.rel.threads first.context.thread parked.0.index).ready.ready ∙ λ i. one_if (is_ready_there (lies i) (untold i))
-
-          ready-one : 0 < occurs first.context.thread s.ready
-          ready-one =
-              let more = occurs-first first.context.thread first.list in
-              let is : occurs first.context.thread s.ready ≡ occurs first.context.thread (first.context.thread ∷ first.list) = ap (occurs first.context.thread) (first.ready ∙ ap (λ n. n ∷ first.list) (sym first.same)) in
-              omega (arith, more, is)
-
-          rests : O.IsPutBack first.context → first.context.pending ≡ []
-          rests (inl none) = none
-          rests (inr waiting) = absurd (let none = stands ∙ ap (λ b. one_if (not b || false)) waiting in let some = ready-one in omega (arith, none, some))
-
-          list : (scheduler later).ready ≡ first.list
-          list = ap (λ (z : Scheduler). z.ready) first.after
-
-  -- A thread that was taken at rest is found doomed, or is given up.
-
-  pub opens-on : Opens p s at → is_shown e.act ≡ false → Opens now (scheduler later) at ⊎ Idles now (scheduler later) at
-  opens-on was quiet = by was.first was.list was.is
-    where
-      t : ℕ
-      t = p.context.thread
-
-      reads : (q : Pending) (rest : Steps) → p.todo ≡ Todo.show q rest ∷ [] → Opens now (scheduler later) at
-      reads q rest list =
-          record {
-            first = Todo.done;
-            list = ap (λ (z : Processor). z.todo) next;
-            is = refl;
-            rests = ap (λ (z : Processor). z.context.pending) next ∙ was.rests;
-            on = ap (λ (z : Processor). z.context.ended) next ∙ was.on;
-            skipped = was.skipped;
-            still = was.still;
-            ready = was.ready ∙ λ i. was.skipped ++ (sym next i).context.thread ∷ (sym same i).ready;
-            inside = was.inside;
-          }
-        where
-          read : is_word_read e.act ≡ true
-          read = read-only f m e law q (made-says f m e law (Todo.show q rest ∷ []) list) quiet
-
-          act : (a : FineAct) → is_word_read a ≡ true → begins_cleaning (record e { act = a }) ≡ false
-          act (FineAct.Shown event more) h = absurd (false≢true h)
-          act (FineAct.Unseen Unseen.WordRead) h = refl
-          act (FineAct.Unseen u) h = absurd (false≢true h)
-
-          next : now ≡ record p { todo = Todo.done ∷ [] }
-          next = exact-next f.image p e (Todo.show q rest ∷ []) list (act e.act read) ∙ ap (λ b. if b then record p { todo = Todo.done ∷ [] } else after_show f.image p e q rest []) read
-
-          same : scheduler later ≡ s
-          same = sched-else f m e law (ap (λ i. same_site i Site.scheduler) (made-at f m e law (Todo.show q rest ∷ []) list) ∙ todo-elsewhere f.image p (Todo.show q rest) [] refl)
-
-      gives-up : p.todo ≡ Todo.done ∷ [] → Idles now (scheduler later) at
-      gives-up list =
-          record {
-            list = ends-rests f.image p e Todo.done [] list refl (ap (λ (a : FineAct). begins_cleaning (record e { act = a })) said);
-            skipped = was.skipped ++ p.context.thread ∷ [];
-            still = still-push m was.skipped p.context.thread was.still still;
-            ready = was.ready ∙ (sym (append_assoc was.skipped (p.context.thread ∷ []) s.ready) ∙ ap (λ z. (was.skipped ++ p.context.thread ∷ []) ++ z) (sym same));
-            inside = was.inside;
-          }
-        where
-          said : e.act ≡ FineAct.Unseen Unseen.Done
-          said = made-says f m e law (Todo.done ∷ []) list
-
-          same : (scheduler later).ready ≡ s.ready
-          same = ap (λ (z : Scheduler). z.ready) (sched-later f m e law (made-at f m e law (Todo.done ∷ []) list) (FineAct.Unseen Unseen.Done) said)
-
-          run : IsRun m p.context
-          run = law.rel.contexts.running e.cpu law.by.named (ap has_steps list)
-
-          of : IsOf m p.context
-          of = run.of (ap (λ b. b && is_empty p.context.pending) was.on)
-
-          doomed : (p.context.ended ≡ true) ⊎ ((thread_at m p.context.thread).doomed ≡ true) → (thread_at m p.context.thread).doomed ≡ true
-          doomed (inl h) = absurd (false≢true (sym was.on ∙ h))
-          doomed (inr h) = h
-
-          still : is_still m p.context.thread ≡ true
-          still =
-              let rests : (thread_at m p.context.thread).pending ≡ [] = sym (ap (λ (z : Thread). z.pending) of.own) ∙ was.rests in
-              λ i. doomed (law.rel.contexts.done e.cpu law.by.named (ap (list_any is_done) list)).1 i && length (rests i) == 0
-
-      by : (first : Todo) → p.todo ≡ first ∷ [] → is_opening first ≡ true → Opens now (scheduler later) at ⊎ Idles now (scheduler later) at
-      by (Todo.show q rest) list is = inl (reads q rest list)
-      by Todo.done list is = inr (gives-up list)
-      by first list is = absurd (false≢true is)
-
-  -- A woken thread is taken, and resumes.
-
-  module _ (c : Context) (told : Told) (rest : Steps) (was : Idles p s at) (moved : e.moved ≡ Exchange.thread c (Some told))
+  module _ (c : Context) (told : Told) (rest : Steps) (was : Idles p s (clock f).marks at) (moved : e.moved ≡ Exchange.thread c (Some told))
       (said : e.act ≡ FineAct.Shown (record { thread = to_thread c.thread; act = Act.Resume }) More.Nothing) (has : c.pending ≡ Pending.Resume ∷ rest)
       (related : Rel later (T.after m c.thread 0 Pending.Resume rest)) (tells : TellsWaiters (T.after m c.thread 0 Pending.Resume rest)) (bounds : AreBounded later) where
     abbrev s2 : State
     s2 = T.after m c.thread 0 Pending.Resume rest
 
     abbrev taken : IsTaken f e
-    taken = takes-first f m e law was.list
-
-    abbrev thread_in : Exchange → ℕ
-    thread_in (Exchange.thread d w) = d.thread
-    thread_in moved = 0
+    taken = (takes-first f m e law was.list c (Some told) moved).0
 
     index : taken.thread ≡ c.thread
-    index = sym taken.same ∙ ap thread_in (sym taken.moved ∙ moved)
+    index =
+        let is = (takes-first f m e law was.list c (Some told) moved).1 in
+        sym (ap (λ (z : Context). z.thread) is ∙ (kill-thread (is_cut s taken.thread) taken.parked ∙ taken.same))
 
-    of-c : IsOf m c
-    of-c = (law.rel.contexts.parked c.thread c (taken-parked f m e law was.list c (Some told) moved)).0
+    of-c : IsOf f m c
+    of-c = (law.rel.contexts.parked c.thread c (taken-parked f m e law was.list c told moved)).0
+
+    whole-before : cuts f c.thread ≡ 0
+    whole-before = taken-uncut f m e law was.list c told moved of-c.index
+
+    whole-after : cuts later c.thread ≡ 0
+    whole-after =
+        let counts = cutters-taken f m e law was.list taken.site taken.said taken.thread taken.list taken.ready (taken-index f m e law taken) in
+        let before : cuts f taken.thread ≡ 0 = ap (cuts f) index ∙ whole-before in
+        ap (cuts later) (sym index) ∙ omega (arith, counts, before)
 
     there : told_at s c.thread ≡ Some told
     there = taken-told f m e law was.list c told moved
 
     machine : (thread_at m c.thread).pending ≡ Pending.Resume ∷ rest
-    machine = sym (ap (λ (z : Thread). z.pending) of-c.own) ∙ has
+    machine = sym (ap (λ (z : Thread). z.pending) (own-is f m c of-c whole-before)) ∙ has
 
     told-is : (thread_at m c.thread).told ≡ Some told
     told-is = scheduler-tells f m law.rel c.thread of-c.index told there
@@ -252,8 +112,10 @@ module _ (f : Fine) (at : Point) (e : FineStep) (law : Lawful f at.state e) (one
     quiet-act : begins_cleaning e ≡ false
     quiet-act = ap (λ (a : FineAct). begins_cleaning (record e { act = a })) said
 
-    next : now ≡ after_take f.image p (Exchange.thread c (Some told))
-    next = exact-next f.image p e [] was.list quiet-act ∙ ap (after_take f.image p) moved
+    next : now ≡ record (after_take f.image p (Exchange.thread c (Some told))) { actor = Some c.thread }
+    next =
+        exact-next f.image p e [] was.list quiet-act
+        ∙ (ap (λ (a : FineAct). with_actor f.image (goes_on_by f.image p e []) a) said ∙ ap (λ (mv : Exchange). record (after_take f.image p mv) { actor = Some c.thread }) moved)
 
     context : now.context ≡ resumed f.image c told
     context = ap (λ (z : Processor). z.context) next
@@ -265,11 +127,27 @@ module _ (f : Fine) (at : Point) (e : FineStep) (law : Lawful f at.state e) (one
     ready = taken.ready ∙ λ i. index i ∷ ap (λ (z : Scheduler). z.ready) (sym taken.after) i
 
     still : is_still m c.thread ≡ false
-    still = ap (λ steps. (thread_at m c.thread).doomed && length steps == 0) machine ∙ none (thread_at m c.thread).doomed (length rest)
+    still =
+        let me = thread_at m c.thread in
+        ap (λ (steps : Steps). (me.doomed || me.suspended && not me.aborted) && length steps == 0) machine ∙ none (me.doomed || me.suspended && not me.aborted) (length rest)
       where
         none : (b : Bool) (n : ℕ) → (b && suc n == 0) ≡ false
         none true n = not-zero n
         none false n = refl
+
+    -- marks that were given since the last event are no matter, since a thread is ready
+    plain : Plain (clock f).marks at.armings ⊎ (Passed m (clock f).marks at.armings × (s.ready ≡ [])) → Plain (clock f).marks at.armings
+    plain (inl is) = is
+    plain (inr passed) = absurd (true≢false (ap is_empty (sym passed.1 ∙ ready)))
+
+    todo-is : now.todo ≡ next_steps f.image (resumed f.image c told) (resumed f.image c told).pending
+    todo-is = ap (λ (z : Processor). z.todo) next
+
+    cut : cutters now.todo ≡ []
+    cut = ap cutters todo-is ∙ cuts-expands f.image [] (resumed f.image c told) tt refl
+
+    woken : wakers now.todo ≡ []
+    woken = takes-wakers f.image p e was.list
 
     one-step : IsNext m c.thread Act.Resume s2
     one-step =
@@ -309,11 +187,19 @@ module _ (f : Fine) (at : Point) (e : FineStep) (law : Lawful f at.state e) (one
           base = ap (λ o. if is_some o then at.ready else behind_next m at.ready) was.inside
               ∙ (ap (behind_next m) (was.ready ∙ ap (λ z. was.skipped ++ z) ready)
               ∙ (behind-skips m was.skipped (c.thread ∷ (scheduler later).ready) was.still ∙ ap (λ b. if b then behind_next m (scheduler later).ready else (scheduler later).ready) still));
-          comes = λ i. woken_of (sym (takes-wakers f.image p e was.list) i) ++ map (λ (d : Context). d.thread) (sym (takes-adders f.image p e was.list) i);
+          uncut = was.cut;
+          comes = λ i. woken_of (sym woken i) ++ (sym cut i ++ map (λ (d : Context). d.thread) (sym (takes-adders f.image p e was.list) i));
+          nobody = refl;
+          cuts_none = refl;
+          whole = ap (cuts later) thread ∙ whole-after;
+          steps = has-one now (takes-runs f.image p e was.list (subst IsThread (sym moved) tt));
+          calm = ap (list_all is_calm) todo-is ∙ calm-expands f.image (resumed f.image c told) tt refl;
+          alone = (λ some. absurd (true≢false (ap is_empty (sym cut) ∙ some)), λ some. (woken, cut));
+          armings = subst (λ (z : Clock). Plain z.marks at.armings) (sym (clock-else f m e law (ap (λ i. same_site i Site.clock) taken.site))) (plain was.armings);
           thread = thread;
-          of = subst (IsOf s2) (sym context) (of-resumes f m e law c told rest of-c has there);
+          of = subst (IsOf later s2) (sym context) (of-resumes f m e law c told rest of-c whole-before whole-after has there);
           runs = takes-runs f.image p e was.list (subst IsThread (sym moved) tt);
           shows = λ h. ap (λ (z : Processor). list_any is_show z.todo) next ∙ no-show (resumed f.image c told) (none-left (resumed f.image c told).pending (ap (λ (d : Context). is_empty d.pending) (sym context) ∙ h));
-          ends = λ h. ap (λ (d : Context). d.ended) context ∙ (take-ends f.image p c (Some told) (ap (λ (z : Processor). list_any is_done z.todo) (sym next) ∙ h)).1;
+          ends = λ h. ap (λ (d : Context). d.ended) context ∙ (take-ends f.image p c (Some told) (ap (λ (z : Processor). says_done z.todo) (sym next) ∙ h)).1;
           told = λ h. ap (λ n. (thread_at s2 n).told) thread ∙ told-then;
         })

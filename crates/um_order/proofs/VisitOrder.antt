@@ -1,7 +1,7 @@
 -- The permission that a thread passes on or drops next is that of the least row due, and its event follows.
 use Rattle.std.proofs.Common.{◌≡◌, ◌≢◌, inl, ℕ, ◌<◌, ◌≤◌, true, false, [], ◌∷◌, ◌++◌, map, drop, Some, None, refl, sym, ap, ◌∙◌, subst, arith, append-nil}
 use Rattle.std.specs.Prelude.{◌&&◌, not, IsTrue, if◌then◌else◌, is_some, slice_get, slice_index_or}
-use Rattle.std.specs.List.{list_any}
+use Rattle.std.specs.List.{list_all}
 use Rattle.std.proofs.lemmas.Bool.{and_parts, false≢true, not-true, true≢false}
 use Rattle.um_base.specs.declared.act.Act.{Act}
 use Rattle.um_base.specs.declared.image.Image.{Image}
@@ -19,6 +19,7 @@ use Rattle.um_invariants.specs.Ready.{behind_next, next_ready, running_or}
 use Rattle.um_words.specs.declared.fine.FineAct.{FineAct}
 use Rattle.um_words.specs.declared.fine.More.{More}
 use Rattle.um_words.specs.Rows.{has, is_last, left_of}
+use Rattle.um_fine.specs.Clock.{Clock}
 use Rattle.um_fine.specs.Context.{Context}
 use Rattle.um_fine.specs.Addresses.{address_of}
 use Rattle.um_fine.specs.Answers.{act_in, leftover_in, row_in}
@@ -30,33 +31,42 @@ use Rattle.um_fine.specs.Sites.{SiteState, same_site, site_takes}
 use Rattle.um_fine.specs.Steps.{FineStep, Site}
 use Rattle.um_refinement.specs.Cleaning.{AreBlocks}
 use Rattle.um_refinement.specs.Dues.{is_visiting}
-use Rattle.um_refinement.specs.Fine.{Fine, row, scheduler}
-use Rattle.um_refinement.specs.Frames.{AreFramed}
-use Rattle.um_refinement.specs.Lists.{adders, has_steps, is_done, visited}
+use Rattle.um_refinement.specs.Fine.{Fine, clock, row, scheduler}
+use Rattle.um_refinement.specs.Lists.{adders, visited}
 use Rattle.um_refinement.specs.Offers.{Drops, Fits, Passes}
 use Rattle.um_refinement.specs.Relation.{Rel}
-use Rattle.um_refinement.specs.Threads.{IsOf}
+use Rattle.um_refinement.specs.Threads.{IsOf, cutters as cuts}
+use Rattle.um_refinement.specs.Timing.{IsHand}
 use Rattle.um_refinement.proofs.Bounds.{AreBounded}
 use Rattle.um_refinement.proofs.ChildrenKnown.{AllCreate}
-use Rattle.um_refinement.proofs.ContextsPart.{now-context}
+use Rattle.um_refinement.proofs.ClockSteps.{is_timing}
+use Rattle.um_refinement.proofs.MarksPart.{clock-same}
+use Rattle.um_refinement.proofs.ContextsPart.{event-uncut, now-context}
 use Rattle.um_refinement.proofs.DropSteps.{Held, clear-below, due-below as none-due, dropped-has, left-here, left-there}
 use Rattle.um_refinement.proofs.Erased.{around}
-use Rattle.um_refinement.proofs.Leaves.{Lawful}
+use Rattle.um_refinement.proofs.LawfulSteps.{Suits}
+use Rattle.um_refinement.proofs.Leaves.{Lawful, drops, passes}
 use Rattle.um_refinement.proofs.ListAdders.{adders-none, next-adders}
-use Rattle.um_refinement.proofs.ListRuns.{goes-runs}
+use Rattle.um_refinement.proofs.ListDone.{says_done}
+use Rattle.um_refinement.proofs.ListRuns.{goes-on, goes-runs}
 use Rattle.um_refinement.proofs.ListWakes.{fine-none, next-wakers, wakers}
+use Rattle.um_refinement.proofs.MemoryPart.{InDomains}
+use Rattle.um_refinement.proofs.Offered.{own-unless}
 use Rattle.um_refinement.proofs.OfVisits.{of-drops, of-passes}
 use Rattle.um_refinement.proofs.ResumeSteps.{TellsWaiters}
 use Rattle.um_refinement.proofs.RowSteps.{row-stands}
 use Rattle.um_refinement.proofs.RunningPart.{todo-elsewhere}
 use Rattle.um_refinement.proofs.SchedulerSteps.{made-at, sched-else}
 use Rattle.um_refinement.proofs.StepsLeft.{drops-on, passes-on}
-use Rattle.um_refinement.proofs.VisitSteps.{Visits, pair-is, visit-act, visit-part, visit-shows, visit-site}
+use Rattle.um_refinement.proofs.VisitSteps.{Visits, pair-is, visit-act, visit-runs, visit-shows, visit-site}
+use Rattle.um_order.proofs.ArmingOrder.{Plain}
 use Rattle.um_order.proofs.Follow.{Followed, follow}
+use Rattle.um_order.proofs.ListCalm.{cuts-none, plain-calm, plain-cutters}
 use Rattle.um_order.proofs.ListShapes.{is_own, next-ends}
-use Rattle.um_order.proofs.Standing.{Begun, IsFull, back, comers, goes, is_show, woken_of}
+use Rattle.um_order.proofs.Standing.{Begun, IsFull, back, comers, cutters, goes, is_calm, is_show, woken_of}
 
-module _ (f : Fine) (at : Point) (e : FineStep) (law : Lawful f at.state e) (one : f.cpus ≡ 1) (orderly : AllCreate at.state) (was : Begun (f.processors e.cpu) (scheduler f) at) where
+module _ (f : Fine) (at : Point) (e : FineStep) (law : Lawful f at.state e) (one : f.cpus ≡ 1) (orderly : AllCreate at.state) (suits : Suits f at.state) (domains : InDomains f at.state)
+    (was : Begun (f.processors e.cpu) (scheduler f) (clock f).marks at) where
   open around f e use {later, processor as p, now}
 
   abbrev m : State
@@ -65,15 +75,18 @@ module _ (f : Fine) (at : Point) (e : FineStep) (law : Lawful f at.state e) (one
   abbrev t : ℕ
   t = p.context.thread
 
+  marks-same : (q : Todo) (todo : Todos) → p.todo ≡ q ∷ todo → is_timing q ≡ false → Plain (clock later).marks at.armings
+  marks-same q todo list off = subst (λ (c : Clock). Plain c.marks at.armings) (sym (clock-same f m e law q todo list off)) was.0.armings
+
+  calm-behind : (q : Todo) (todo : Todos) → p.todo ≡ q ∷ todo → list_all is_calm todo ≡ true
+  calm-behind q todo list = (and_parts (is_calm q) (list_all is_calm todo) (sym (ap (list_all is_calm) list) ∙ was.0.calm)).1
+
   -- What holds of both.
   module _ (x : ℕ) (step : Todo) (todo : Todos) (h : Visits f m e.cpu e x step todo) (own : is_own f.image (step ∷ todo) ≡ true) (plain : is_show step ≡ false)
-      (bare : (wakers todo ≡ []) × (adders todo ≡ [])) where
-    framed : AreFramed f.image (step ∷ todo)
-    framed = subst (AreFramed f.image) h.at (law.rel.processors e.cpu law.by.named).frames
-
+      (apart : IsHand (step ∷ todo) → ⊥) where
     due-below : (visits : is_visiting p.context.pending ≡ true) → visited (step ∷ todo) ≡ x → (y : ℕ) → y < x → slice_index_or (thread_at m t).due y false ≡ true → ⊥
     due-below visits here y less d =
-        let least = (law.rel.processors e.cpu law.by.named).dues.passes (ap has_steps h.at) visits y d in
+        let least = (law.rel.processors e.cpu law.by.named).dues.passes (visit-runs h apart) visits y d in
         let is : visited p.todo ≡ x = ap visited h.at ∙ here in omega (arith, least, is, less)
 
   module _ (who x : ℕ) (todo : Todos) (h : Visits f m e.cpu e x (Todo.pass who x) todo) where
@@ -83,11 +96,11 @@ module _ (f : Fine) (at : Point) (e : FineStep) (law : Lawful f at.state e) (one
     has-pass : p.context.pending ≡ Pending.Inherit (to_thread who) ∷ fits-pass.0.step ∷ fits-pass.0.rest
     has-pass = fits-pass.0.pending ∙ ap (λ n. Pending.Inherit (to_thread n) ∷ fits-pass.0.step ∷ fits-pass.0.rest) fits-pass.0.same
 
-    of-pass : IsOf m p.context
-    of-pass = (visit-part h).of (passes-on f.image p.context who todo fits-pass.0)
+    of-pass : IsOf f m p.context
+    of-pass = (law.rel.contexts.running e.cpu law.by.named (visit-runs h (λ hand. hand))).of (passes-on f.image p.context who todo fits-pass.0)
 
     machine-pass : (thread_at m t).pending ≡ Pending.Inherit (to_thread who) ∷ fits-pass.0.step ∷ fits-pass.0.rest
-    machine-pass = sym (ap (λ (z : Thread). z.pending) of-pass.own) ∙ has-pass
+    machine-pass = sym (ap (λ (z : Thread). z.pending) (own-unless of-pass (ap waits has-pass))) ∙ has-pass
 
     said-pass : e.act ≡ by_me f.image p (Act.Inherit (to_thread who) (address_of f.image x))
     said-pass = visit-shows h (Act.Inherit (to_thread who) (address_of f.image x)) (visit-act h)
@@ -123,20 +136,14 @@ module _ (f : Fine) (at : Point) (e : FineStep) (law : Lawful f at.state e) (one
             row = x;
             taken = 1;
             next = inl (refl, ap (λ steps. first_or (slice_get steps 0) (rest_step m t)) machine-pass);
-            least = ((chosen-pass, due-pass), λ y less may. due-below x (Todo.pass who x) todo h refl refl bare-pass (ap is_visiting has-pass) refl y less may.1);
+            least = ((chosen-pass, due-pass), λ y less may. due-below x (Todo.pass who x) todo h refl refl (λ hand. hand) (ap is_visiting has-pass) refl y less may.1);
             says = ap (λ (i : Image). Act.Inherit (to_thread who) (address_of i x)) (sym h.rel.image);
             leaves = ap (λ steps. T.after m t x (Pending.Inherit (to_thread who)) steps) (sym (ap (λ (steps : Steps). drop 1 steps) machine-pass));
           }
-        where
-          bare-pass : (wakers todo ≡ []) × (adders todo ≡ [])
-          bare-pass = (
-            ap wakers fits-pass.0.behind ∙ fine-none f.image p.context fits-pass.0.step fits-pass.0.rest,
-            ap adders fits-pass.0.behind ∙ adders-none f.image p.context fits-pass.0.step fits-pass.0.rest,
-          )
 
       same-pass : scheduler later ≡ scheduler f
       same-pass =
-          sched-else f m e law (ap (λ i. same_site i Site.scheduler) (made-at f m e law (Todo.pass who x ∷ todo) h.at) ∙ todo-elsewhere f.image p (Todo.pass who x) todo refl)
+          sched-else f m e law (ap (λ i. same_site i Site.scheduler) (made-at f m e law (Todo.pass who x ∷ todo) h.at) ∙ todo-elsewhere f.image p (Todo.pass who x) todo refl tt)
 
       pub pass-follows : Followed f at e law one orderly (T.after m t x (Pending.Inherit (to_thread who)) (fits-pass.0.step ∷ fits-pass.0.rest))
       pass-follows =
@@ -146,30 +153,53 @@ module _ (f : Fine) (at : Point) (e : FineStep) (law : Lawful f at.state e) (one
             own = ap (is_own f.image) h.at;
             first = ap (λ o. running_or o (next_ready m at.ready)) inside;
             next = next-pass;
-            base = ap (λ o. if is_some o then at.ready else behind_next m at.ready) inside ∙ (was.ready ∙ ((λ i. (scheduler f).ready ++ (list i ++ mine i)) ∙ (append-nil (scheduler f).ready ∙ ap (λ z. z.ready) (sym same-pass))));
-            comes = λ i. woken_of (sym (next-wakers f.image p e (Todo.pass who x) todo h.at tt tt ∙ wakes) i) ++ map (λ (c : Context). c.thread) (sym (next-adders f.image p e (Todo.pass who x) todo h.at tt tt ∙ adds) i);
+            base = ap (λ o. if is_some o then at.ready else behind_next m at.ready) inside ∙ (was.0.ready ∙ ((λ i. (scheduler f).ready ++ (list i ++ mine i)) ∙ (append-nil (scheduler f).ready ∙ ap (λ z. z.ready) (sym same-pass))));
+            comes = λ i. woken_of (sym woken i) ++ (sym cut i ++ map (λ (c : Context). c.thread) (sym added i));
+            uncut = was.1;
+            nobody = refl;
+            cuts_none = refl;
+            whole = ap (λ (c : Context). cuts later c.thread) context-pass ∙ uncut;
+            steps = (goes-on f.image p e (Todo.pass who x) todo h.at refl tt tt (subst (AreBlocks f.image) h.at (law.rel.processors e.cpu law.by.named).blocks)).0;
+            calm = plain-calm f.image p e (Todo.pass who x) todo h.at refl (calm-behind (Todo.pass who x) todo h.at);
+            alone = (λ some. absurd (true≢false (ap is_empty (sym cut) ∙ some)), λ some. (woken, cut));
+            armings = marks-same (Todo.pass who x) todo h.at refl;
             thread = ap (λ (c : Context). c.thread) context-pass;
-            of = subst (IsOf (T.after m t x (Pending.Inherit (to_thread who)) (fits-pass.0.step ∷ fits-pass.0.rest))) (sym context-pass)
-                (of-passes f m e law p.context who x (fits-pass.0.step ∷ fits-pass.0.rest) of-pass has-pass);
-            runs = goes-runs f.image p e (Todo.pass who x) todo h.at refl tt (subst (AreBlocks f.image) h.at (law.rel.processors e.cpu law.by.named).blocks);
+            of = subst (IsOf later (T.after m t x (Pending.Inherit (to_thread who)) (fits-pass.0.step ∷ fits-pass.0.rest))) (sym context-pass)
+                (of-passes f m e law p.context who x (fits-pass.0.step ∷ fits-pass.0.rest) of-pass uncut has-pass);
+            runs = goes-runs f.image p e (Todo.pass who x) todo h.at refl tt tt (subst (AreBlocks f.image) h.at (law.rel.processors e.cpu law.by.named).blocks) ∙ visit-runs h (λ hand. hand);
             shows = λ rests. absurd (false≢true (sym (ap is_empty has-pass) ∙ (ap (λ (c : Context). is_empty c.pending) (sym context-pass) ∙ rests)));
             ends = λ done.
                 ap (λ (c : Context). c.ended) context-pass
-                ∙ next-ends f.image p e (Todo.pass who x) todo h.at fits-pass (λ k. absurd (false≢true k)) (λ k. was.ends (ap (list_any is_done) h.at ∙ k)) done;
+                ∙ next-ends f.image p e (Todo.pass who x) todo h.at fits-pass (λ k. absurd (false≢true k)) refl (λ k. was.0.ends (ap says_done h.at ∙ k)) done;
             told = λ k. absurd (false≢true (sym (ap waits has-pass) ∙ (ap (λ (c : Context). waits c.pending) (sym context-pass) ∙ k)));
           })
         where
           wakes : wakers todo ≡ []
           wakes = ap wakers fits-pass.0.behind ∙ fine-none f.image p.context fits-pass.0.step fits-pass.0.rest
 
+          uncut : cuts later t ≡ 0
+          uncut = event-uncut f m e law suits domains (T.after m t x (Pending.Inherit (to_thread who)) (fits-pass.0.step ∷ fits-pass.0.rest)) (passes who x (fits-pass.0.step ∷ fits-pass.0.rest) todo h said-pass) (Todo.pass who x) todo h.at tt of-pass (ap waits has-pass)
+
+          uncuts : cutters todo ≡ []
+          uncuts = ap cutters fits-pass.0.behind ∙ cuts-none f.image p.context fits-pass.0.step fits-pass.0.rest
+
+          woken : wakers now.todo ≡ []
+          woken = next-wakers f.image p e (Todo.pass who x) todo h.at tt tt ∙ wakes
+
+          cut : cutters now.todo ≡ []
+          cut = plain-cutters f.image p e (Todo.pass who x) todo h.at refl ∙ uncuts
+
           adds : adders todo ≡ []
           adds = ap adders fits-pass.0.behind ∙ adders-none f.image p.context fits-pass.0.step fits-pass.0.rest
 
+          added : adders now.todo ≡ []
+          added = next-adders f.image p e (Todo.pass who x) todo h.at refl tt tt ∙ adds
+
           inside : at.inside ≡ Some (to_thread t)
-          inside = was.inside ∙ ap (λ steps. if goes steps then Some (to_thread t) else None) has-pass
+          inside = was.0.inside ∙ ap (λ steps. if goes steps then Some (to_thread t) else None) has-pass
 
           list : comers p.todo ≡ []
-          list = ap comers h.at ∙ λ i. woken_of (wakes i) ++ map (λ (c : Context). c.thread) (adds i)
+          list = ap comers h.at ∙ λ i. woken_of (wakes i) ++ (uncuts i ++ map (λ (c : Context). c.thread) (adds i))
 
           mine : back p.context ≡ []
           mine = ap (λ steps. if is_empty steps && not p.context.ended then t ∷ [] else []) has-pass
@@ -181,11 +211,11 @@ module _ (f : Fine) (at : Point) (e : FineStep) (law : Lawful f at.state e) (one
     abbrev left-drop : Steps
     left-drop = fits-drop.step ∷ fits-drop.rest
 
-    of-drop : IsOf m p.context
-    of-drop = (visit-part h).of (drops-on f.image p.context todo fits-drop)
+    of-drop : IsOf f m p.context
+    of-drop = (law.rel.contexts.running e.cpu law.by.named (visit-runs h (λ hand. hand))).of (drops-on f.image p.context todo fits-drop)
 
     machine-drop : (thread_at m t).pending ≡ Pending.Drops fits-drop.from ∷ fits-drop.step ∷ fits-drop.rest
-    machine-drop = sym (ap (λ (z : Thread). z.pending) of-drop.own) ∙ fits-drop.pending
+    machine-drop = sym (ap (λ (z : Thread). z.pending) (own-unless of-drop (ap waits fits-drop.pending))) ∙ fits-drop.pending
 
     said-drop : e.act ≡ by_me f.image p (Act.DropPair (to_thread t) (address_of f.image x) (leftover_in (act_in e.act)))
     said-drop = visit-shows h (Act.DropPair (to_thread t) (address_of f.image x) (leftover_in (act_in e.act))) (visit-act h)
@@ -203,7 +233,7 @@ module _ (f : Fine) (at : Point) (e : FineStep) (law : Lawful f at.state e) (one
 
     low : fits-drop.from ≤ x
     low =
-        let least = (law.rel.processors e.cpu law.by.named).dues.drops fits-drop.from (fits-drop.step ∷ fits-drop.rest) (ap has_steps h.at) fits-drop.pending in
+        let least = (law.rel.processors e.cpu law.by.named).dues.drops fits-drop.from (fits-drop.step ∷ fits-drop.rest) (visit-runs h (λ hand. hand)) fits-drop.pending in
         let is : visited p.todo ≡ x = ap visited h.at in omega (arith, least, is)
 
     chosen-drop : MayChoose m t x (Pending.Drops fits-drop.from)
@@ -228,7 +258,7 @@ module _ (f : Fine) (at : Point) (e : FineStep) (law : Lawful f at.state e) (one
 
       same-drop : scheduler later ≡ scheduler f
       same-drop =
-          sched-else f m e law (ap (λ i. same_site i Site.scheduler) (made-at f m e law (Todo.drop x ∷ todo) h.at) ∙ todo-elsewhere f.image p (Todo.drop x) todo refl)
+          sched-else f m e law (ap (λ i. same_site i Site.scheduler) (made-at f m e law (Todo.drop x ∷ todo) h.at) ∙ todo-elsewhere f.image p (Todo.drop x) todo refl tt)
 
       pub drop-follows : Followed f at e law one orderly (T.after m t x (Pending.Drops fits-drop.from) (fits-drop.step ∷ fits-drop.rest))
       drop-follows =
@@ -238,30 +268,53 @@ module _ (f : Fine) (at : Point) (e : FineStep) (law : Lawful f at.state e) (one
             own = ap (is_own f.image) h.at;
             first = ap (λ o. running_or o (next_ready m at.ready)) inside;
             next = next-drop;
-            base = ap (λ o. if is_some o then at.ready else behind_next m at.ready) inside ∙ (was.ready ∙ ((λ i. (scheduler f).ready ++ (list i ++ mine i)) ∙ (append-nil (scheduler f).ready ∙ ap (λ z. z.ready) (sym same-drop))));
-            comes = λ i. woken_of (sym (next-wakers f.image p e (Todo.drop x) todo h.at tt tt ∙ wakes) i) ++ map (λ (c : Context). c.thread) (sym (next-adders f.image p e (Todo.drop x) todo h.at tt tt ∙ adds) i);
+            base = ap (λ o. if is_some o then at.ready else behind_next m at.ready) inside ∙ (was.0.ready ∙ ((λ i. (scheduler f).ready ++ (list i ++ mine i)) ∙ (append-nil (scheduler f).ready ∙ ap (λ z. z.ready) (sym same-drop))));
+            comes = λ i. woken_of (sym woken i) ++ (sym cut i ++ map (λ (c : Context). c.thread) (sym added i));
+            uncut = was.1;
+            nobody = refl;
+            cuts_none = refl;
+            whole = ap (λ (c : Context). cuts later c.thread) context-drop ∙ uncut;
+            steps = (goes-on f.image p e (Todo.drop x) todo h.at refl tt tt (subst (AreBlocks f.image) h.at (law.rel.processors e.cpu law.by.named).blocks)).0;
+            calm = plain-calm f.image p e (Todo.drop x) todo h.at refl (calm-behind (Todo.drop x) todo h.at);
+            alone = (λ some. absurd (true≢false (ap is_empty (sym cut) ∙ some)), λ some. (woken, cut));
+            armings = marks-same (Todo.drop x) todo h.at refl;
             thread = ap (λ (c : Context). c.thread) context-drop;
-            of = subst (IsOf (T.after m t x (Pending.Drops fits-drop.from) (fits-drop.step ∷ fits-drop.rest))) (sym context-drop)
-                (of-drops f m e law p.context fits-drop.from x (fits-drop.step ∷ fits-drop.rest) of-drop fits-drop.pending);
-            runs = goes-runs f.image p e (Todo.drop x) todo h.at refl tt (subst (AreBlocks f.image) h.at (law.rel.processors e.cpu law.by.named).blocks);
+            of = subst (IsOf later (T.after m t x (Pending.Drops fits-drop.from) (fits-drop.step ∷ fits-drop.rest))) (sym context-drop)
+                (of-drops f m e law p.context fits-drop.from x (fits-drop.step ∷ fits-drop.rest) of-drop uncut fits-drop.pending);
+            runs = goes-runs f.image p e (Todo.drop x) todo h.at refl tt tt (subst (AreBlocks f.image) h.at (law.rel.processors e.cpu law.by.named).blocks) ∙ visit-runs h (λ hand. hand);
             shows = λ rests. absurd (false≢true (ap (λ (c : Context). is_empty c.pending) (sym context-drop) ∙ rests));
             ends = λ done.
                 ap (λ (c : Context). c.ended) (context-drop ∙ sym (ap (dropped_at f.image p.context x) h.shown))
-                ∙ next-ends f.image p e (Todo.drop x) todo h.at fits-drop (λ k. absurd (false≢true k)) (λ k. was.ends (ap (list_any is_done) h.at ∙ k)) done;
+                ∙ next-ends f.image p e (Todo.drop x) todo h.at fits-drop (λ k. absurd (false≢true k)) refl (λ k. was.0.ends (ap says_done h.at ∙ k)) done;
             told = λ k. absurd (false≢true (ap (λ (c : Context). waits c.pending) (sym context-drop) ∙ k));
           })
         where
           wakes : wakers todo ≡ []
           wakes = ap wakers fits-drop.behind ∙ fine-none f.image p.context fits-drop.step fits-drop.rest
 
+          uncut : cuts later t ≡ 0
+          uncut = event-uncut f m e law suits domains (T.after m t x (Pending.Drops fits-drop.from) (fits-drop.step ∷ fits-drop.rest)) (drops fits-drop.from x (fits-drop.step ∷ fits-drop.rest) todo h said-drop) (Todo.drop x) todo h.at tt of-drop (ap waits fits-drop.pending)
+
+          uncuts : cutters todo ≡ []
+          uncuts = ap cutters fits-drop.behind ∙ cuts-none f.image p.context fits-drop.step fits-drop.rest
+
+          woken : wakers now.todo ≡ []
+          woken = next-wakers f.image p e (Todo.drop x) todo h.at tt tt ∙ wakes
+
+          cut : cutters now.todo ≡ []
+          cut = plain-cutters f.image p e (Todo.drop x) todo h.at refl ∙ uncuts
+
           adds : adders todo ≡ []
           adds = ap adders fits-drop.behind ∙ adders-none f.image p.context fits-drop.step fits-drop.rest
 
+          added : adders now.todo ≡ []
+          added = next-adders f.image p e (Todo.drop x) todo h.at refl tt tt ∙ adds
+
           inside : at.inside ≡ Some (to_thread t)
-          inside = was.inside ∙ ap (λ steps. if goes steps then Some (to_thread t) else None) fits-drop.pending
+          inside = was.0.inside ∙ ap (λ steps. if goes steps then Some (to_thread t) else None) fits-drop.pending
 
           list : comers p.todo ≡ []
-          list = ap comers h.at ∙ λ i. woken_of (wakes i) ++ map (λ (c : Context). c.thread) (adds i)
+          list = ap comers h.at ∙ λ i. woken_of (wakes i) ++ (uncuts i ++ map (λ (c : Context). c.thread) (adds i))
 
           mine : back p.context ≡ []
           mine = ap (λ steps. if is_empty steps && not p.context.ended then t ∷ [] else []) fits-drop.pending

@@ -1,5 +1,5 @@
 -- The event of a load.
-use Rattle.std.proofs.Common.{◌≡◌, ℕ, Bool, true, false, List, refl, sym, subst, ap, ◌∙◌}
+use Rattle.std.proofs.Common.{◌≡◌, ℕ, Bool, true, false, List, Some, refl, sym, subst, ap, ◌∙◌}
 use Rattle.std.specs.Prelude.{nat_le, if◌then◌else◌}
 use Rattle.um_base.specs.declared.act.Act.{Act}
 use Rattle.um_base.specs.declared.image.Image.{Image}
@@ -51,9 +51,9 @@ module _ (image : Image) (cpu k : ℕ) (m : Bytes) (r : Running) (phase : Phase)
   load-made : (b : Bool) → t ≡ r.context.value.thread → nat_le n 4 ≡ true → b ≡ allows image (in_phase Phase.Park r) Access.Read a.0 n
       → Goes cpu image (about_to phase (Pending.Load to a n) r) (made b) (behind b (value_in (act_in (made b).act)))
   load-made true et en eb =
-      record { asks = record { maker = refl; makes = makes-by true (made true) et eb; fit = en }; next = refl }
+      record { asks = record { maker = refl; makes = makes-by true (made true) et eb; fit = en }; next = ap (λ (k : ℕ). record (behind true (value_in (act_in (made true).act))) { actor = Some k }) (sym et) }
   load-made false et en eb =
-      record { asks = record { maker = refl; makes = makes-by false (made false) et eb; fit = en }; next = refl }
+      record { asks = record { maker = refl; makes = makes-by false (made false) et eb; fit = en }; next = ap (λ (k : ℕ). record (behind false (value_in (act_in (made false).act))) { actor = Some k }) (sym et) }
 
   pub load-goes : (b : Bool) (act : MemoryAct) (value : ℕ) (z : Processor) → t ≡ r.context.value.thread → nat_le n 4 ≡ true
       → b ≡ allows image (in_phase Phase.Park r) Access.Read a.0 n → act ≡ load_or_fault b

@@ -1,8 +1,14 @@
 -- What the proofs of several functions cite.
 pub mod Accesses
+pub mod Begun
 pub mod Cleaned
 pub mod Counted
+pub mod Errands
+pub mod Expanded
+pub mod Idled
 pub mod Lifted
+pub mod Looked
+pub mod Noted
 pub mod Phased
 pub mod Released
 pub mod Requests
@@ -11,5 +17,8 @@ pub mod Runs
 pub mod Shown
 pub mod Spared
 pub mod Standings
+pub mod Stopped
+pub mod Timed
 pub mod Visited
 pub mod Wholes
+pub mod Worked

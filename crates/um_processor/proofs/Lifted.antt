@@ -20,7 +20,9 @@ use Rattle.um_tables.specs.declared.sites.Sites.{Ghosts as SitesOf}
 use Rattle.um_processor.specs.Cleanings.{block_if}
 use Rattle.um_processor.specs.Events.{about_to, about_to_park, at_event, rest_of, shows, todo_after, with_ends, with_woken}
 use Rattle.um_processor.specs.Phases.{is_idle, showing}
-use Rattle.um_tables.specs.Contexts.{born, steps_behind}
+use Rattle.um_tables.specs.Contexts.{steps_behind}
+use Rattle.um_processor.specs.Phases.{first_of}
+use Rattle.um_processor.specs.Processors.{behind_access, ready_of}
 use Rattle.um_processor.specs.Processors.{Goes, MayNext, OnMade, Turned, UnlessMade, cleaned, in_phase, processor_of, with_todo}
 use Rattle.um_processor.specs.Standing.{IsClear, before, standing, whole}
 use Rattle.um_processor.specs.Turns.{HasCleaned, HasEnded, HasRun, HasTurned}
@@ -123,10 +125,10 @@ stood-in r phase cleans ends woken e ec ee ew = bare cleans ends woken (processo
 
 -- at the event of its thread's next step, or without one
 pub at-none : (phase : Phase) (r : Running) → steps_behind r.visited r.context.value.pending ≡ [] → at_event phase r ≡ about_to_park phase r
-at-none phase r e = ap (λ (steps : Steps). with_todo r (showing steps (todo_after phase (born r.newborn)))) e
+at-none phase r e = ap (λ (steps : Steps). with_todo r (showing steps (todo_after phase (behind_access (first_of steps) (ready_of r)) (ready_of r)))) e
 
 pub at-step : (phase : Phase) (r : Running) (step : Pending) → steps_behind r.visited r.context.value.pending ≡ step ∷ rest_of r → at_event phase r ≡ about_to phase step r
-at-step phase r step e = ap (λ (steps : Steps). with_todo r (showing steps (todo_after phase (born r.newborn)))) e
+at-step phase r step e = ap (λ (steps : Steps). with_todo r (showing steps (todo_after phase (behind_access (first_of steps) (ready_of r)) (ready_of r)))) e
 
 pub none_left : {A : Type 0} (xs : List A) → length xs ≤ 0 → xs ≡ []
 none_left [] h = refl

@@ -1,5 +1,5 @@
 -- Events by which a row may come to cleaning.
-use Rattle.std.proofs.Common.{◌≡◌, ℕ, Bool, refl, sym, subst, ◌∙◌}
+use Rattle.std.proofs.Common.{◌≡◌, ℕ, Bool, Some, ap, refl, sym, subst, ◌∙◌}
 use Rattle.um_base.specs.declared.image.Image.{Image}
 use Rattle.um_base.specs.declared.names.Addr.{Addr}
 use Rattle.um_base.specs.declared.names.ThreadIx.{ThreadIx}
@@ -15,7 +15,7 @@ use Rattle.um_words.specs.declared.row_act.RowAct.{RowAct}
 use Rattle.um_processor.specs.declared.running.Running.{Running}
 use Rattle.um_processor.specs.Events.{about_to, behind_event, rest_of}
 use Rattle.um_processor.specs.Processors.{Goes, cleaned}
-use Rattle.um_tables.specs.Asked.{AsksFor}
+use Rattle.um_processor.specs.Wants.{Wants}
 use Rattle.um_tables.specs.RowActs.{row_made}
 use Rattle.um_processor.proofs.Visited.{cleaned-is}
 
@@ -31,8 +31,8 @@ module _ (image : Image) (cpu : ℕ) (r : Running) (phase : Phase) (who : Thread
       let e = row_made image cpu x w (RowAct.DropPair (to_thread t) who a) in
       record {
         asks =
-            subst (λ (q : ℕ × ℕ). AsksFor cpu image (about_to phase (Pending.DropPair who a) r) (row_made image cpu q.0 w (RowAct.DropPair (to_thread q.1) who a)))
+            subst (λ (q : ℕ × ℕ). Wants cpu image (about_to phase (Pending.DropPair who a) r) (row_made image cpu q.0 w (RowAct.DropPair (to_thread q.1) who a)))
             (λ i. (sym ex i, sym et i))
             (record { maker = refl; makes = refl; fit = refl });
-        next = (λ i. cleaned image (sym ex i) (ec i) (ez i)) ∙ cleaned-is image x e behind_drop (begins_cleaning e) refl;
+        next = (λ i. cleaned image (sym ex i) (ec i) ((ez ∙ ap (λ (k : ℕ). record behind_drop { actor = Some k }) (sym et)) i)) ∙ cleaned-is image x e (record behind_drop { actor = r.actor }) (begins_cleaning e) refl;
       }

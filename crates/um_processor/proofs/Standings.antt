@@ -1,7 +1,7 @@
 -- The steps before a thread's next step: what each leaves.
 use Rattle.std.proofs.Common.{◌≡◌, ℕ, ◌+◌, Bool, true, false, List, [], ◌∷◌, ◌++◌, refl, sym, ap, ◌∙◌, append_assoc}
 use Rattle.std.proofs.lemmas.List.{append-nil}
-use Rattle.std.specs.Prelude.{◌≢◌, not, nat_lt, if◌then◌else◌, Option}
+use Rattle.std.specs.Prelude.{◌≢◌, not, nat_lt, if◌then◌else◌, Option, Some}
 use Rattle.um_base.specs.declared.act.Act.{Act}
 use Rattle.um_base.specs.declared.act.Leftover.{Leftover}
 use Rattle.um_base.specs.declared.ask.Told.{Told}
@@ -16,10 +16,10 @@ use Rattle.um_words.specs.declared.fine.Unseen.{Unseen}
 use Rattle.um_words.specs.declared.row_word.RowWord.{RowWord}
 use Rattle.um_words.specs.Rows.{has, is_last}
 use Rattle.um_fine.specs.Addresses.{address_of}
-use Rattle.um_fine.specs.Answers.{charge_in}
+use Rattle.um_fine.specs.Answers.{charge_in, is_visit}
 use Rattle.um_fine.specs.Asks.{begins_cleaning}
 use Rattle.um_fine.specs.Context.{Context}
-use Rattle.um_fine.specs.Follows.{end_calls, filled_up, wakes}
+use Rattle.um_fine.specs.Follows.{end_calls, filled_up, wakes, with_actor}
 use Rattle.um_fine.specs.Heap.{Heap}
 use Rattle.um_fine.specs.Objects.{ObjectCell}
 use Rattle.um_fine.specs.Places.{Todo, Todos, clean_pairs, cleaning, is_cleaning_todo, with_cleaning}
@@ -31,13 +31,14 @@ use Rattle.um_tables.specs.declared.heap_act.HeapAct.{HeapAct}
 use Rattle.um_processor.specs.declared.phase.Phase.{Phase}
 use Rattle.um_words.specs.declared.row_act.RowAct.{RowAct}
 use Rattle.um_processor.specs.declared.running.Running.{Running}
-use Rattle.um_tables.specs.Asked.{asked, AsksFor, shown}
+use Rattle.um_tables.specs.Asked.{asked, shown}
+use Rattle.um_processor.specs.Wants.{Wants}
 use Rattle.um_processor.specs.Cleanings.{all_clean, block_if}
 use Rattle.um_tables.specs.HeapActs.{heap_made}
 use Rattle.um_tables.specs.ObjectCells.{cleared_made}
-use Rattle.um_processor.specs.Phases.{is_idle, showing, todo_in}
-use Rattle.um_tables.specs.Contexts.{born, steps_behind}
-use Rattle.um_processor.specs.Processors.{Goes, cleaned, processor_of, todo_of}
+use Rattle.um_processor.specs.Phases.{is_idle, showing}
+use Rattle.um_tables.specs.Contexts.{steps_behind}
+use Rattle.um_processor.specs.Processors.{Goes, Ready, cleaned, errands_of, processor_of, ready_of, todo_in, todo_of}
 use Rattle.um_tables.specs.RowActs.{row_made}
 use Rattle.um_tables.specs.SchedulerActs.{woken_made}
 use Rattle.um_processor.specs.Standing.{before, standing}
@@ -55,18 +56,28 @@ front-showing : (steps : Steps) (todo : Todos) → Front (showing steps todo)
 front-showing [] todo = record { first = Todo.park; rest = todo; plain = refl; is = refl }
 front-showing (p ∷ rest) todo = record { first = Todo.show p rest; rest = todo; plain = refl; is = refl }
 
-front-in : (phase : Phase) (steps : Steps) (x : ℕ) (c : Context) → Front (todo_in phase steps x c)
-front-in Phase.Access steps x c = front-showing steps _
-front-in Phase.Start steps x c = front-showing steps _
-front-in Phase.Show steps x c = front-showing steps _
-front-in phase steps x c = record { first = _; rest = _; plain = refl; is = refl }
+front-in : (phase : Phase) (steps : Steps) (k : Ready) → Front (todo_in phase steps k)
+front-in Phase.Access steps k = front-showing steps _
+front-in Phase.Start steps k = front-showing steps _
+front-in Phase.Act steps k = front-showing steps _
+front-in Phase.Show steps k = front-showing steps _
+front-in phase steps k = record { first = _; rest = _; plain = refl; is = refl }
 
 -- the next step of a processor with a thread is none of cleaning
-pub front-of : (phase : Phase) (r : Running) → is_idle phase ≡ false → Front (todo_of phase r)
-front-of Phase.Idle r h = absurd (cc)
-front-of Phase.Pass r h = record { first = _; rest = _; plain = refl; is = refl }
-front-of Phase.Drop r h = record { first = _; rest = _; plain = refl; is = refl }
-front-of phase r h = front-in phase (steps_behind r.visited r.context.value.pending) r.queue (born r.newborn)
+front-own : (phase : Phase) (r : Running) → is_idle phase ≡ false → Front (todo_of phase r)
+front-own Phase.Idle r h = absurd (cc)
+front-own Phase.Pass r h = record { first = _; rest = _; plain = refl; is = refl }
+front-own Phase.Drop r h = record { first = _; rest = _; plain = refl; is = refl }
+front-own phase r h = front-in phase (steps_behind r.visited r.context.value.pending) (ready_of r)
+
+pub front-of : (phase : Phase) (r : Running) → is_idle phase ≡ false → Front (errands_of phase r)
+front-of Phase.Look r h = record { first = _; rest = _; plain = refl; is = refl }
+front-of Phase.TellCut r h = record { first = _; rest = _; plain = refl; is = refl }
+front-of Phase.Rouse r h = record { first = _; rest = _; plain = refl; is = refl }
+front-of Phase.AddRoused r h = record { first = _; rest = _; plain = refl; is = refl }
+front-of Phase.Handle r h = record { first = _; rest = _; plain = refl; is = refl }
+front-of Phase.Paid r h = record { first = _; rest = _; plain = refl; is = refl }
+front-of phase r h = front-own phase r h
 
 front-wakes : (woken : List (ThreadIx × Told)) (todo : Todos) → Front todo → Front (wakes woken todo)
 front-wakes [] todo f = f
@@ -85,10 +96,10 @@ stands cleans ends woken p f =
 
 -- A processor without a thread has nothing to do, whatever it had to do before its last step. One with a thread has something to do.
 pub none_idle : (cleans : Todos) (ends : List ℕ) (woken : List (ThreadIx × Told)) (r : Running) → is_idle r.phase ≡ true
-    → before cleans ends woken (todo_of r.phase r) ≡ []
+    → before cleans ends woken (errands_of r.phase r) ≡ []
 none_idle cleans ends woken r h = none r.phase h
   where
-    none : (phase : Phase) → is_idle phase ≡ true → before cleans ends woken (todo_of phase r) ≡ []
+    none : (phase : Phase) → is_idle phase ≡ true → before cleans ends woken (errands_of phase r) ≡ []
     none Phase.Idle h = refl
     none phase h = absurd (cc)
 
@@ -97,11 +108,11 @@ some-behind [] todo f h = let e : f.first ∷ f.rest ≡ [] = sym f.is ∙ h in 
 some-behind (q ∷ cleans) todo f h = absurd (cc)
 
 pub some_busy : (cleans : Todos) (ends : List ℕ) (woken : List (ThreadIx × Told)) (r : Running) → is_idle r.phase ≡ false
-    → before cleans ends woken (todo_of r.phase r) ≢ []
+    → before cleans ends woken (errands_of r.phase r) ≢ []
 some_busy cleans ends woken r h e =
     let f = front-of r.phase r h in
-    some-behind cleans (end_calls ends (wakes woken (todo_of r.phase r))) (front-before ends woken (todo_of r.phase r) f)
-    (sym (ap (λ (p : Processor). p.todo) (stands cleans ends woken (record (processor_of r) { todo = todo_of r.phase r }) f)) ∙ e)
+    some-behind cleans (end_calls ends (wakes woken (errands_of r.phase r))) (front-before ends woken (errands_of r.phase r) f)
+    (sym (ap (λ (p : Processor). p.todo) (stands cleans ends woken (record (processor_of r) { todo = errands_of r.phase r }) f)) ∙ e)
 
 fills : (image : Image) (c : Context) (todo : Todos) → Front todo → filled_up image c todo ≡ todo
 fills image c todo f = ap (filled_up image c) f.is ∙ sym f.is
@@ -154,20 +165,20 @@ module _ (image : Image) (cpu : ℕ) (p : Processor) (todo : Todos) (f : Front t
     vacated x w = record { asks = record { maker = refl; makes = refl; fit = refl }; next = refl }
 
     pub recycled : (x n : ℕ) (h : Heap)
-        → Goes cpu image (record p { todo = Todo.recycle x ∷ (cs ++ todo) }) (heap_made image cpu n h (HeapAct.Recycle (to_thread p.context.thread) (address_of image x)) p.charge) (record p { todo = cs ++ todo })
+        → Goes cpu image (record p { todo = Todo.recycle x ∷ (cs ++ todo) }) (heap_made image cpu n h (HeapAct.Recycle (to_thread p.context.thread) (address_of image x)) p.charge) (record p { todo = cs ++ todo; actor = Some p.context.thread })
     recycled x n h =
-        record { asks = record { maker = refl; makes = refl; fit = refl }; next = ap (λ (t : Todos). record p { todo = t }) (sym (fills-behind image p.context cs todo f)) }
+        record { asks = record { maker = refl; makes = refl; fit = refl }; next = ap (λ (t : Todos). record p { todo = t; actor = Some p.context.thread }) (sym (fills-behind image p.context cs todo f)) }
 
     -- a drop of the cleaner, where there is a permission, and the look where there is none
     abbrev swept : ℕ → ℕ → RowWord → FineStep
     swept who x w = row_made image cpu x w (RowAct.Sweep (to_thread p.context.thread) (to_thread who) (address_of image x))
 
     pub sweep-asks : (who x : ℕ) (w : RowWord)
-        → AsksFor cpu image (record p { todo = Todo.clean_pair who x ∷ (cs ++ todo) }) (swept who x w)
+        → Wants cpu image (record p { todo = Todo.clean_pair who x ∷ (cs ++ todo) }) (swept who x w)
     sweep-asks who x w = by (has w who) refl
       where
         by : (b : Bool) → has w who ≡ b
-            → AsksFor cpu image (record p { todo = Todo.clean_pair who x ∷ (cs ++ todo) })
+            → Wants cpu image (record p { todo = Todo.clean_pair who x ∷ (cs ++ todo) })
             (filled image (SiteState.row w) (asked cpu (Site.row x)
             (if b then shown (to_thread p.context.thread) (Act.DropPair (to_thread who) (address_of image x) Leftover.NoPair) More.Nothing else FineAct.Unseen Unseen.Visit)
             Exchange.nothing))
@@ -178,17 +189,30 @@ module _ (image : Image) (cpu : ℕ) (p : Processor) (todo : Todos) (f : Front t
     pairs-behind who x true = refl
     pairs-behind who x false = refl
 
+    -- the thread of the last event then
+    sweep-acts : (who x : ℕ) (w : RowWord) (list : Todos) → let e = swept who x w in
+        record p { todo = list; actor = if is_visit e.act then p.actor else Some p.context.thread } ≡ with_actor image (record p { todo = list }) e.act
+    sweep-acts who x w list = by (has w who)
+      where
+        by : (b : Bool) → let e = filled image (SiteState.row w) (asked cpu (Site.row x)
+            (if b then shown (to_thread p.context.thread) (Act.DropPair (to_thread who) (address_of image x) Leftover.NoPair) More.Nothing else FineAct.Unseen Unseen.Visit)
+            Exchange.nothing) in
+            record p { todo = list; actor = if is_visit e.act then p.actor else Some p.context.thread } ≡ with_actor image (record p { todo = list }) e.act
+        by true = refl
+        by false = refl
+
     pub pair_cleaned : (who x : ℕ) (w : RowWord) (cleans : Bool)
         → all_clean (clean_pairs who (x + 1) cs) ≡ true → cleans ≡ begins_cleaning (swept who x w)
         → Goes cpu image (record p { todo = Todo.clean_pair who x ∷ (cs ++ todo) }) (swept who x w)
-        (record p { todo = (clean_pairs who (x + 1) cs ++ block_if image x cleans) ++ todo })
+        (record p { todo = (clean_pairs who (x + 1) cs ++ block_if image x cleans) ++ todo; actor = if is_visit (swept who x w).act then p.actor else Some p.context.thread })
     pair_cleaned who x w cleans clean h =
         let b = nat_lt (x + 1) ROWS in
         let e = swept who x w in
         record {
           asks = sweep-asks who x w;
           next =
-              sym (cleaned-behind image x p (clean_pairs who (x + 1) cs) todo cleans clean f)
-              ∙ ((λ i. cleaned image x (h i) (record p { todo = sym (pairs-behind who (x + 1) b) i }))
+              sym (cleaned-behind image x (record p { actor = if is_visit e.act then p.actor else Some p.context.thread }) (clean_pairs who (x + 1) cs) todo cleans clean f)
+              ∙ ((λ i. cleaned image x (h i) (record p { todo = sym (pairs-behind who (x + 1) b) i; actor = if is_visit e.act then p.actor else Some p.context.thread }))
+              ∙ ap (cleaned image x (begins_cleaning e)) (sweep-acts who x w (clean_pairs who (x + 1) (cs ++ todo)))
               ∙ cleaned-is image x e (record p { todo = clean_pairs who (x + 1) (cs ++ todo) }) (begins_cleaning e) refl);
         }

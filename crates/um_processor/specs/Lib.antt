@@ -5,5 +5,7 @@ pub mod Processors
 pub mod Cleanings
 pub mod Standing
 pub mod Subjects
+pub mod Wants
 pub mod Events
 pub mod Turns
+pub mod Idles

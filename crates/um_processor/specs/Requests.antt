@@ -1,11 +1,10 @@
 -- Requests: the steps of whose result a processor needs to know only that they were made.
-use Rattle.std.specs.Prelude.{◌≡◌, ℕ, Bool, true, false, IsTrue, []}
+use Rattle.std.specs.Prelude.{◌≡◌, ◌++◌, ℕ, Bool, true, false, IsTrue, []}
 use Rattle.um_base.specs.declared.image.Image.{Image}
 use Rattle.um_words.specs.declared.row_word.RowWord.{RowWord}
 use Rattle.um_words.specs.declared.thread_word.ThreadWord.{ThreadWord}
 use Rattle.um_words.specs.declared.dom_word.DomWord.{DomWord}
 use Rattle.um_fine.specs.Answers.{thread_in}
-use Rattle.um_fine.specs.Asks.{next_site}
 use Rattle.um_fine.specs.Heap.{Heap}
 use Rattle.um_fine.specs.Memory.{Bytes}
 use Rattle.um_fine.specs.Processor.{Processor}
@@ -25,7 +24,8 @@ use Rattle.um_tables.specs.DomainActs.{domain_made}
 use Rattle.um_processor.specs.Events.{gone_by}
 use Rattle.um_tables.specs.HeapActs.{heap_made}
 use Rattle.um_tables.specs.MemoryActs.{has_room, memory_made}
-use Rattle.um_processor.specs.Processors.{Goes, in_phase, processor_of, refilled}
+use Rattle.um_fine.specs.Follows.{filled_up}
+use Rattle.um_processor.specs.Processors.{Goes, in_phase, processor_of, ready_of, refilled, rereading_of, settling_of, site_next, with_todo}
 use Rattle.um_tables.specs.RowActs.{row_made}
 use Rattle.um_tables.specs.SchedulerActs.{done_made}
 use Rattle.um_tables.specs.ThreadActs.{thread_made}
@@ -65,12 +65,12 @@ module _ (cpu : ℕ) (image : Image) where
   -- the request is what this processor asks for next, and leaves the processor so
   pub record Leads (p : Processor) (request : Request) (z : Processor) : Type 0 where
     pub few : IsTrue (is_short request)
-    pub site : next_site image p ≡ site_of request
+    pub site : site_next image p ≡ site_of request
     pub goes : Each request (λ e. Goes cpu image p e z)
 
   -- its next step holds its thread, and so tells the thread's domain
   pub record Holds (r : Running) (next : Phase) : Type 0 where
-    pub site : next_site image (processor_of r) ≡ Site.thread r.context.value.thread
+    pub site : site_next image (processor_of r) ≡ Site.thread r.context.value.thread
     pub goes : (w : ThreadWord) → let e = thread_made image cpu r.context.value.thread w ThreadAct.Hold in Goes cpu image (processor_of r) e (processor_of (record r { domain = (thread_in e.word).domain; phase = next }))
 
   -- what comes of it, given what the sites say in each case: the step was made; it was refused; none was made since others are at the site;
@@ -99,4 +99,5 @@ gone_on image Onward.Replies r = gone_by image (Next.on (Change.says r.reply) Wa
 gone_on image (Onward.EntersUser script) r = gone_by image (Next.enters script) r
 gone_on image (Onward.Dooms from) r = gone_by image (Next.dooms from) r
 gone_on image Onward.Expands r = refilled image r
+gone_on image Onward.EndsAct r = with_todo r (filled_up image r.context.value (settling_of (ready_of r) ++ rereading_of (ready_of r)))
 gone_on image (Onward.To phase) r = in_phase phase r

@@ -42,6 +42,13 @@ is_plain (Pending.SetInit addr strict undo) = true
 is_plain (Pending.Reserve kind) = true
 is_plain (Pending.Buffer size) = true
 is_plain (Pending.Named who) = true
+is_plain (Pending.Arm ticks) = true
+is_plain (Pending.ArmTimer ticks) = true
+is_plain (Pending.Abort who) = true
+is_plain (Pending.Suspend who) = true
+is_plain (Pending.Continue who) = true
+is_plain (Pending.Join who timeout) = true
+is_plain (Pending.FutexWait addr value timeout) = true
 is_plain step = is_quiet step
 
 -- claims end
@@ -49,4 +56,5 @@ abbrev pub ends_claims : Pending → Bool
 ends_claims (Pending.Answer reply to) = true
 ends_claims (Pending.Fatal reason cause) = true
 ends_claims (Pending.ClearInit addr) = true
+ends_claims Pending.Killed = true
 ends_claims _ = false

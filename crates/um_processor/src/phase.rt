@@ -35,16 +35,52 @@ pub enum Phase {
     MoveClaim,
     /// .. and the claim ends, if the domain is initialised.
     MoveDone,
-    /// Before the event of a start the creator is held.
+    /// Before the event of a start the creator is held ..
     StartHold,
-    /// The event of a start.
+    /// .. the new thread's index may be joined again ..
+    Unshut,
+    /// .. and then comes the event of the start.
     Start,
     /// After a start the creator is let go ..
     StartLetGo,
     /// .. and the new thread gets ready.
     Add,
+    /// Before an act that may wait the thread's word notes its cell.
+    Note,
+    /// Before a deadline is armed its mark is owed.
+    Owe,
+    /// The event of an act on an object, or of a join, behind which a mark may have to be settled.
+    Act,
+    /// After a wait on a futex the claim on the domain ends ..
+    ActDone,
+    /// .. and the thread is let go.
+    ActLetGo,
+    /// The mark is settled for which an act was made.
+    Settle,
+    /// After an act that waits the thread's word is read once more.
+    Reread,
+    /// A thread that was aborted is looked for in a cell ..
+    Look,
+    /// .. and gets ready.
+    TellCut,
+    /// A thread that sleeps is looked for ..
+    Rouse,
+    /// .. and gets ready.
+    AddRoused,
+    /// Behind a look nothing is left, and the thread's next step comes.
+    Open,
+    /// Before its own object is cleared, the thread tells those who wait for its end.
+    Leave,
     /// The event of any other step.
     Show,
+    /// A suspended thread goes to sleep ..
+    Sleep,
+    /// .. and its word is read once more.
+    RereadAsleep,
+    /// It has no thread, and a mark in its hand, which is handled ..
+    Handle,
+    /// .. and then isn't owed any more.
+    Paid,
     /// The thread is put back.
     Park,
     /// The thread stops running and isn't put back.

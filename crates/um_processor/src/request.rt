@@ -40,6 +40,8 @@ pub enum Onward {
     Dooms(u8),
     /// The thread's next step is over.
     Expands,
+    /// The thread's act is over, behind which a mark may have to be settled, and its word to be read.
+    EndsAct,
     /// Its next fine step is that of a phase.
     To(Phase),
 }

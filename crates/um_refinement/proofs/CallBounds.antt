@@ -1,6 +1,8 @@
 -- What bounds a call: it holds two objects at most, a load is of four bytes at most, and the stack of a thread is one of the image's objects, so
 -- that its row is never free. The steps of each line of a lawful image keep within these bounds.
-use Rattle.um_refinement.proofs.Words.{◌≡◌, ℕ, zero, suc, ◌+◌, ◌*◌, ◌-◌, ◌<◌, ◌≤◌, Bool, true, false, List, [], ◌∷◌, ◌++◌, length, Option, Some, None, refl, sym, ap, ◌∙◌, subst, arith, ◌==◌, ◌&&◌, ◌||◌, ℤ, if◌then◌else◌, is_some, nat_lt, slice_get, unwrap_or, and_parts, eqb-true, false≢true, Cause, Ask, Image, ObjectDef, Instr, Options, STATIC_ROWS, Addr, Errno, Kind, Mode, ThreadIx, is_lawful_line, is_within, row_at, Pending, Thread, has_kind, Steps, answer_error, answer_zero, buffered, creates, privileged, steps_of, to_addr, work, value_of, kind_in, row_kind, row_named, is_size, dynamic_kind_at}
+use Rattle.um_base.specs.declared.names.Timeout.{Timeout}
+use Rattle.um_machine.specs.Order.{aborts, answer_void, arms}
+use Rattle.um_refinement.proofs.Words.{◌≡◌, ℕ, zero, suc, ◌+◌, ◌*◌, ◌-◌, ◌<◌, ◌≤◌, Bool, true, false, List, [], ◌∷◌, ◌++◌, length, Option, Some, None, refl, sym, ap, ◌∙◌, subst, arith, ◌==◌, ◌&&◌, ◌||◌, ℤ, if◌then◌else◌, is_some, nat_lt, slice_get, unwrap_or, and_parts, eqb-true, false≢true, Cause, Ask, Image, ObjectDef, Instr, Options, STATIC_ROWS, Addr, Errno, Kind, Mode, ThreadIx, is_lawful_line, is_within, row_at, Pending, Thread, has_kind, Steps, answer_error, answer_zero, buffered, creates, privileged, steps_of, to_addr, to_thread, work, value_of, kind_in, row_kind, row_named, is_size, dynamic_kind_at}
 
 module _ (image : Image) where
   -- the mark that is cleared first at the end of a thread is that of one of the image's objects
@@ -81,6 +83,16 @@ module _ (image : Image) where
   init-bounded x ask true = (omega arith, refl)
   init-bounded x ask false = (omega arith, refl)
 
+  -- a deadline is armed first, or none
+  arms-bounded : (n : ℕ) (timeout : Timeout) (steps : Steps) → Bounded image n steps → Bounded image n (arms timeout steps)
+  arms-bounded n Timeout.NoWait steps h = h
+  arms-bounded n (Timeout.Ticks ticks) steps h = h
+  arms-bounded n Timeout.Forever steps h = h
+
+  aborts-bounded : (t who : ℕ) → Bounded image 1 (aborts t who)
+  aborts-bounded t who =
+      elim (who == t) as (λ b. Bounded image 1 (Pending.Abort (to_thread who) ∷ (if b then Pending.Killed ∷ [] else answer_void))) [ true ↦ omega arith | false ↦ (omega arith, refl) ]
+
   inherit-bounded : (inherits : Bool) (who : ThreadIx) (rest : Steps) → Bounded image 2 rest → Bounded image 2 ((if inherits then Pending.Inherit who ∷ [] else []) ++ rest)
   inherit-bounded true who rest h = h
   inherit-bounded false who rest h = h
@@ -131,4 +143,15 @@ module _ (image : Image) where
   bounded-steps t me i (Instr.PipeInit object size) lawful =
       let most = value_of me.registers size in
       buffered-bounded (value_of me.registers object) Kind.Pipe (is_within 1 256 most) most (Ask.PipeInit most (unwrap_or me.pool 0))
+  bounded-steps t me i (Instr.SemTake object timeout) lawful = (omega arith, λ x e k. arms-bounded 1 timeout _ (omega arith, refl))
+  bounded-steps t me i (Instr.MutexLock object timeout) lawful = (omega arith, λ x e k. arms-bounded 1 timeout _ (omega arith, refl))
+  bounded-steps t me i (Instr.MsgqPut object addr timeout) lawful = (omega arith, λ x e k. arms-bounded 1 timeout _ (omega arith, refl))
+  bounded-steps t me i (Instr.MsgqGet object addr timeout) lawful = (omega arith, λ x e k. arms-bounded 1 timeout _ (omega arith, refl))
+  bounded-steps t me i (Instr.StackPop object addr timeout) lawful = (omega arith, λ x e k. arms-bounded 1 timeout _ (omega arith, refl))
+  bounded-steps t me i (Instr.PipeWrite object addr length timeout) lawful = (omega arith, λ x e k. arms-bounded 1 timeout _ (omega arith, refl))
+  bounded-steps t me i (Instr.PipeRead object addr length timeout) lawful = (omega arith, λ x e k. arms-bounded 1 timeout _ (omega arith, refl))
+  bounded-steps t me i (Instr.Abort thread) lawful = (omega arith, λ x e k. aborts-bounded t _)
+  bounded-steps t me i (Instr.Join thread timeout) lawful = (omega arith, λ x e k. arms-bounded 1 timeout _ (omega arith, refl))
+  bounded-steps t me i (Instr.FutexWait addr value timeout) lawful = arms-bounded 0 timeout _ (omega arith, refl)
+  bounded-steps t me i (Instr.FutexWake addr all) lawful = (omega arith, refl)
   bounded-steps t me i _ lawful = (omega arith, λ x e k. (omega arith, refl))

@@ -38,7 +38,7 @@ module _ (image : Image) where
 
   -- the steps that are left keep within the bounds, whichever way it goes on
   ways : (n : ℕ) → n ≤ 2 → HoldsOfWays (Bounded image n)
-  ways n few = record { call = (λ a left h. h, λ left h. h, λ a left h. h); replies = λ reply. (few, refl); fails = λ reason cause. (few, λ size. few, λ a. (tt, few)) }
+  ways n few = record { call = (λ a left h. h, λ left h. h, λ a left h. h); replies = λ reply. (few, refl); fails = λ reason cause. (few, λ size. few, λ a. (tt, few)); runs_to = λ a before deadline left h. h }
 
   left : (n : ℕ) (steps : Steps) (way : Way) → Bounded image n steps → Bounded image n (steps_by steps way)
   left n steps way h = way-left (Bounded image n) (ways n (bounded-few image n steps h)) steps way h
@@ -52,6 +52,8 @@ module _ (image : Image) where
   refused n Mode.User rest Refusal.FailsUser e l = l
   refused n Mode.Supervisor rest Refusal.FailsUser e l = (l, refl)
   refused n mode rest (Refusal.Answers reply) e l = (l, refl)
+  refused n mode rest (Refusal.AnswersUninit reply) Errno.EINVAL l = (l, refl)
+  refused n mode rest (Refusal.AnswersUninit reply) e l = l
 
   checks : (c : Context) (a : Addr) (kind : Option Kind) (rest : Steps) (refusal : Refusal) (v : Option Errno) → c.stack.0 < length image.objects
       → (v ≡ None → (x : ℕ) × (row_at image a.0 ≡ Some x) × (has_kind kind (Some (row_kind image x)) ≡ true)) → length c.claims < 2
@@ -143,6 +145,12 @@ module _ (image : Image) where
       by-next Pending.Resume h found = gone-bounded c rest (next Pending.Resume) b tt
       by-next (Pending.CleanPair who) h found = gone-bounded c rest (next (Pending.CleanPair who)) b tt
       by-next Pending.Recycle h found = gone-bounded c rest (next Pending.Recycle) b tt
+      by-next Pending.Killed h found = gone-bounded c rest (next Pending.Killed) b tt
+      by-next Pending.Left h found = gone-bounded c rest (next Pending.Left) b tt
+      by-next Pending.Tick h found = gone-bounded c rest (next Pending.Tick) b tt
+      by-next (Pending.TimeOut who) h found = gone-bounded c rest (next (Pending.TimeOut who)) b tt
+      by-next Pending.Expire h found = gone-bounded c rest (next Pending.Expire) b tt
+      by-next (Pending.Cut who) h found = gone-bounded c rest (next (Pending.Cut who)) b tt
       by-next q h found = gone-bounded c rest (next q) b h
 
     -- whatever step is made, the own part then keeps within the bounds

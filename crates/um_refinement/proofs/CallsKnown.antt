@@ -45,7 +45,7 @@ module _ (m : State) (sound : IsSound m) where
 
 -- Rows of threads.
 
-setup-inside : (os : List ObjectDef) (x n : ℕ) → setup_thread (slice_index_or (map (λ (o : ObjectDef). o.setup) os) x Setup.Bare) ≡ Some n
+pub setup-inside : (os : List ObjectDef) (x n : ℕ) → setup_thread (slice_index_or (map (λ (o : ObjectDef). o.setup) os) x Setup.Bare) ≡ Some n
     → (o : ObjectDef) × (slice_get os x ≡ Some o) × (setup_thread o.setup ≡ Some n) × (x < length os)
 setup-inside [] x n h = absurd (false≢true (ap is_some h))
 setup-inside (o ∷ os) zero n h = (o, refl, h, omega arith)
@@ -65,6 +65,7 @@ module _ (image : Image) (lawful : IsLawful image) (sited : IsSited image) where
   thread-kind Kind.Msgq (Setup.Thread index) n h t = absurd (false≢true h)
   thread-kind Kind.Stack (Setup.Thread index) n h t = absurd (false≢true h)
   thread-kind Kind.Pipe (Setup.Thread index) n h t = absurd (false≢true h)
+  thread-kind Kind.Timer (Setup.Thread index) n h t = absurd (false≢true h)
   thread-kind kind setup n h t = absurd (false≢true (ap is_some t))
 
   some-same : {a b : ℕ} → Some a ≡ Some b → a ≡ b

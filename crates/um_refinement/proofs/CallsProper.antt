@@ -1,8 +1,9 @@
 -- The steps that are left of each thread's call are proper in every state that a run of a described image reaches: each step of the
 -- access-matrix machine keeps that.
-use Rattle.um_refinement.proofs.Words.{◌≡◌, ℕ, ◌+◌, Bool, true, false, List, [], ◌∷◌, length, Option, Some, None, refl, sym, ap, ◌∙◌, subst, arith, if◌then◌else◌, nat_lt, slice_index_or, slice_set, true≢false, get_or-set_same, Event, Image, Instr, ROWS, THREADS, Addr, Errno, Kind, Mode, Policy, Want, IsLawful, is_lawful_line, row_at, Pending, Refusal, Thread, Change, Next, changed, checked_way, gone, steps_by, told_way, verdict, Steps, fatal_steps, steps_of, Offers, Runs, begins, exits, goes, skips_drops, skips_inherit, State, instruction_at, is_living, no_rows, nobody, thread_at, with_thread, Ignores, all_other, each-after, next_of, HoldsOfWays, way-left, Call, at_set, call_is, core_of, IsKnown, below_rows, passed, row_is, IsSited, call_of, none_checked, image_move, known_step, step_move, tends, is_tending, IsTrue, false≢true}
+use Rattle.um_machine.specs.Run.{leaves, stops}
+use Rattle.um_refinement.proofs.Words.{thread_of_addr, ◌<◌, ◌≡◌, ℕ, ◌+◌, Bool, true, false, List, [], ◌∷◌, length, Option, Some, None, refl, sym, ap, ◌∙◌, subst, arith, if◌then◌else◌, nat_lt, slice_index_or, slice_set, true≢false, get_or-set_same, Event, Image, Instr, ROWS, THREADS, Addr, Errno, Kind, Mode, Policy, Want, IsLawful, is_lawful_line, row_at, Pending, Refusal, Thread, Change, Next, changed, checked_way, gone, steps_by, told_way, verdict, Steps, fatal_steps, steps_of, Offers, Runs, begins, exits, goes, skips_drops, skips_inherit, State, instruction_at, is_living, no_rows, nobody, thread_at, with_thread, Ignores, all_other, each-after, next_of, HoldsOfWays, way-left, Call, at_set, call_is, core_of, IsKnown, below_rows, passed, row_is, IsSited, call_of, none_checked, image_move, known_step, step_move, tends, false≢true, kind_is, object_at, row_has, row_kind}
 use Rattle.um_machine.specs.Table as T
-use Rattle.um_refinement.proofs.CallSteps.{Bare, Proper, line-lawful, proper-steps}
+use Rattle.um_refinement.proofs.CallSteps.{Bare, Proper, line-lawful, proper-steps, thread-below}
 use Rattle.um_refinement.proofs.StepsLeft.{fatal-left}
 
 -- the steps of a thread that has ended
@@ -11,6 +12,7 @@ Closing [] = Unit {0}
 Closing (Pending.Drops from ∷ rest) = Closing rest
 Closing (Pending.ClearInit a ∷ rest) = Closing rest
 Closing (Pending.Dooms from ∷ rest) = Closing rest
+Closing (Pending.Killed ∷ rest) = Closing rest
 Closing (p ∷ rest) = ⊥
 
 -- the steps of a call are proper, and a thread that doesn't live holds nothing
@@ -64,7 +66,7 @@ module _ (image : Image) where
   Fits c left next = Unit {0}
 
   ways : (held : List Bool) → HoldsOfWays (Proper image held)
-  ways held = record { call = (λ a left h. h, λ left h. h, λ a left h. h); replies = λ reply. refl; fails = λ reason cause. (tt, λ size. tt, λ a. tt) }
+  ways held = record { call = (λ a left h. h, λ left h. h, λ a left h. h); runs_to = λ a before deadline left h. h; replies = λ reply. refl; fails = λ reason cause. (tt, λ size. tt, λ a. tt) }
 
   going : (c : Call) (checked : List Bool) (steps : Steps) → Going c checked steps → IsProper image (record c { checked = checked; pending = steps })
   going c checked steps h = (h.1, λ dead. absurd (true≢false (sym h.0 ∙ dead)))
@@ -78,6 +80,8 @@ module _ (image : Image) where
   refused-proper held Mode.User Refusal.FailsUser e left = tt
   refused-proper held Mode.Supervisor Refusal.FailsUser e left = refl
   refused-proper held mode (Refusal.Answers reply) e left = refl
+  refused-proper held mode (Refusal.AnswersUninit reply) Errno.EINVAL left = refl
+  refused-proper held mode (Refusal.AnswersUninit reply) e left = tt
 
   fatal-closes : (i : Image) (t : ℕ) (me : Thread) (reason : ℕ) (policy : Policy) → Proper image no_rows (fatal_steps i t me reason policy) × (Bare no_rows × Closing (fatal_steps i t me reason policy))
   fatal-closes i t me reason policy =
@@ -87,33 +91,33 @@ module _ (image : Image) where
   dooms-next held true from none = (none, tt)
   dooms-next held false from none = (none, tt)
 
-  gone-proper : IsSited image → (left : Steps) (u : State) (t : ℕ) (next : Next) (me : Thread) → u.image ≡ image → Fits (call_of me) left next → IsProper image (call_of me)
+  gone-proper : IsSited image → ((a : ℕ) → thread_of_addr image a < THREADS) → (left : Steps) (u : State) (t : ℕ) (next : Next) (me : Thread) → u.image ≡ image → Fits (call_of me) left next → IsProper image (call_of me)
       → IsProper image (call_of (gone left u t next me))
-  gone-proper sited left u t (Next.on change way) me same h was =
+  gone-proper sited below left u t (Next.on change way) me same h was =
       subst (IsProper image) (sym (call-changed u.image change me (steps_by left way))) (going (call_of me) me.checked (steps_by left way) (h.0, way-left (Proper image me.checked) (ways me.checked) left way h.1))
-  gone-proper sited left u t (Next.checks x None way) me same h was = going (call_of me) (slice_set me.checked x true) (steps_by left way) h
-  gone-proper sited left u t (Next.checks x (Some e) way) me same h was = going (call_of me) me.checked (steps_by left way) h
-  gone-proper sited left u t (Next.answers to reply) me same h was = going (call_of me) no_rows left (h.0, subst (Proper image no_rows) (sym h.1) none-held)
-  gone-proper sited left u t (Next.owns keeps) me same h was = (h.0, h.1)
-  gone-proper sited left u t (Next.begins None) me same h was = was
-  gone-proper sited left u t (Next.begins (Some instr)) me same h was =
+  gone-proper sited below left u t (Next.checks x None way) me same h was = going (call_of me) (slice_set me.checked x true) (steps_by left way) h
+  gone-proper sited below left u t (Next.checks x (Some e) way) me same h was = going (call_of me) me.checked (steps_by left way) h
+  gone-proper sited below left u t (Next.answers to reply) me same h was = going (call_of me) no_rows left (h.0, subst (Proper image no_rows) (sym h.1) none-held)
+  gone-proper sited below left u t (Next.owns keeps) me same h was = (h.0, h.1)
+  gone-proper sited below left u t (Next.begins None) me same h was = was
+  gone-proper sited below left u t (Next.begins (Some instr)) me same h was =
       going (call_of me) me.checked (steps_of u.image t me instr)
-      (h.0, subst (λ (i : Image). Proper image me.checked (steps_of i t me instr)) (sym same) (proper-steps image sited t me h.1 h.2.0 instr h.2.1))
-  gone-proper sited left u t (Next.resumes None) me same h was = was
-  gone-proper sited left u t (Next.resumes (Some told)) me same h was =
+      (h.0, subst (λ (i : Image). Proper image me.checked (steps_of i t me instr)) (sym same) (proper-steps image sited below t me h.1 h.2.0 instr h.2.1))
+  gone-proper sited below left u t (Next.resumes None) me same h was = was
+  gone-proper sited below left u t (Next.resumes (Some told)) me same h was =
       going (call_of me) me.checked (steps_by left (told_way told.reply)) (h.0, way-left (Proper image me.checked) (ways me.checked) left (told_way told.reply) h.1)
-  gone-proper sited left u t (Next.creates who) me same h was = going (call_of me) me.checked left h
-  gone-proper sited left u t Next.starts me same h was = going (call_of me) me.checked left (h.0, h.1 me.checked)
-  gone-proper sited left u t (Next.inherits who) me same h was = going (call_of me) me.checked (Pending.Inherit who ∷ left) h
-  gone-proper sited left u t (Next.drops from) me same h was = h
-  gone-proper sited left u t (Next.dooms from) me same h was = let next = dooms-next me.checked (nat_lt (from + 1) THREADS) from h in (next.0, λ dead. (h, next.1))
-  gone-proper sited left u t (Next.enters script) me same h was = going (call_of me) me.checked [] (h.0, h.1)
-  gone-proper sited left u t Next.exits me same h was = (none-held, λ dead. (none-held, tt))
-  gone-proper sited left u t (Next.fatal reason) me same h was = let closes = fatal-closes u.image t me reason u.image.policy in (closes.0, λ dead. closes.1)
-  gone-proper sited left u t Next.stays me same h was = was
+  gone-proper sited below left u t (Next.creates who) me same h was = going (call_of me) me.checked left h
+  gone-proper sited below left u t Next.starts me same h was = going (call_of me) me.checked left (h.0, h.1 me.checked)
+  gone-proper sited below left u t (Next.inherits who) me same h was = going (call_of me) me.checked (Pending.Inherit who ∷ left) h
+  gone-proper sited below left u t (Next.drops from) me same h was = h
+  gone-proper sited below left u t (Next.dooms from) me same h was = let next = dooms-next me.checked (nat_lt (from + 1) THREADS) from h in (next.0, λ dead. (h, next.1))
+  gone-proper sited below left u t (Next.enters script) me same h was = going (call_of me) me.checked [] (h.0, h.1)
+  gone-proper sited below left u t Next.exits me same h was = (none-held, λ dead. (none-held, tt))
+  gone-proper sited below left u t (Next.fatal reason) me same h was = let closes = fatal-closes u.image t me reason u.image.policy in (closes.0, λ dead. closes.1)
+  gone-proper sited below left u t Next.stays me same h was = was
 
 ignores : Ignores call_of all_other
-ignores = record { due = λ h me due. refl; told = λ h me told. refl; domain = λ h me domain. refl; doomed = λ h me. refl }
+ignores = record { due = λ h me due. refl; told = λ h me told. refl; domain = λ h me domain. refl; doomed = λ h me. refl; flagged = λ h me aborted suspended. refl }
 
 module _ (m : State) (t x : ℕ) where
   abbrev me : Thread
@@ -125,6 +129,11 @@ module _ (m : State) (t x : ℕ) where
   Stands Pending.Exit rest = Bare (thread_at m t).checked × (is_living (thread_at m t).life ≡ true)
   Stands (Pending.CleanPair who) rest = Unit {0}
   Stands Pending.Recycle rest = Unit {0}
+  Stands Pending.Left rest = Unit {0}
+  Stands Pending.Tick rest = Unit {0}
+  Stands (Pending.TimeOut who) rest = Unit {0}
+  Stands Pending.Expire rest = Unit {0}
+  Stands (Pending.Cut who) rest = Unit {0}
   Stands q rest = IsProper m.image (record (call_of (thread_at m t)) { pending = q ∷ rest })
 
   stands : (q : Pending) (rest : Steps) → IsProper m.image (record (call_of (thread_at m t)) { pending = q ∷ rest }) → Stands q rest
@@ -132,6 +141,11 @@ module _ (m : State) (t x : ℕ) where
   stands Pending.Exit rest h = absurd h.0
   stands (Pending.CleanPair who) rest h = absurd h.0
   stands Pending.Recycle rest h = absurd h.0
+  stands Pending.Left rest h = absurd h.0
+  stands Pending.Tick rest h = absurd h.0
+  stands (Pending.TimeOut who) rest h = absurd h.0
+  stands Pending.Expire rest h = absurd h.0
+  stands (Pending.Cut who) rest h = absurd h.0
   stands q rest h = h
 
   pub offered-proper : IsProper m.image (call_of (thread_at m t)) → (q : Pending) (rest : Steps) → Offers m t q rest → Stands q rest
@@ -148,7 +162,13 @@ module _ (m : State) (t x : ℕ) where
       by (begins e lives doomed there) = ((at [] e).0, lives)
       by (exits e lives doomed there) = ((at [] e).0, lives)
       by (tends {p = Pending.CleanPair who} is started) = tt
+      by (stops e lives must) = (refl, λ dead. absurd (true≢false (sym lives ∙ dead)))
+      by (leaves ends) = tt
       by (tends {p = Pending.Recycle} is started) = tt
+      by (tends {p = Pending.Tick} is started) = tt
+      by (tends {p = Pending.TimeOut who} is started) = tt
+      by (tends {p = Pending.Expire} is started) = tt
+      by (tends {p = Pending.Cut who} is started) = tt
       by (tends {p = q} is started) = absurd (false≢true is)
 
   module _ (all : AreProper m.image m) (known : IsKnown (core_of m)) (lawful : IsLawful m.image) where
@@ -159,7 +179,9 @@ module _ (m : State) (t x : ℕ) where
     checks a kind want refusal rest lives h (Some e) said = (lives, refused-proper m.image me.checked me.mode refusal e rest)
     checks a kind want refusal rest lives h None said =
         let p = passed m t kind want (row_at m.image a.0) said in
-        let y = p.0 in (lives, subst (λ n. Proper m.image (slice_set me.checked n true) rest) (sym (row_is m a y p.1)) (h y p.1 (passed-held m known t a.0 y p.1)))
+        let y = p.0 in
+        let has = row_has kind (object_at m y).kind (row_kind m.image y) p.3 (λ k e. known.claimed.kinds y k (kind_is m y ∙ e)) in
+        (lives, subst (λ n. Proper m.image (slice_set me.checked n true) rest) (sym (row_is m a y p.1)) (h y p.1 (passed-held m known t a.0 y p.1) has))
 
     line : (instr : Option Instr) → instruction_at m.image me.place ≡ instr → IsLine m.image instr
     line None e = tt
@@ -174,6 +196,12 @@ module _ (m : State) (t x : ℕ) where
     fits (Pending.Fatal reason cause) rest h = tt
     fits (Pending.CleanPair who) rest h = tt
     fits Pending.Recycle rest h = tt
+    fits Pending.Killed rest h = tt
+    fits Pending.Left rest h = tt
+    fits Pending.Tick rest h = tt
+    fits (Pending.TimeOut who) rest h = tt
+    fits Pending.Expire rest h = tt
+    fits (Pending.Cut who) rest h = tt
     fits (Pending.Check a kind want refusal) rest h = checks a kind want refusal rest (alive h.1) h.0 (verdict m t a.0 kind want) refl
     fits (Pending.ClearInit a) rest h = h
     fits (Pending.Drops from) rest h = h
@@ -183,6 +211,10 @@ module _ (m : State) (t x : ℕ) where
     fits (Pending.Publish a) rest h = (alive h.1, h.0.1)
     fits (Pending.SetInit a strict undo) rest h = (alive h.1, h.0.1)
     fits (Pending.Named who) rest h = (alive h.1, h.0.1)
+    fits (Pending.Abort who) rest h = (alive h.1, h.0.1)
+    fits (Pending.Suspend who) rest h = (alive h.1, h.0.1)
+    fits (Pending.Continue who) rest h = (alive h.1, h.0.1)
+    fits (Pending.Join who timeout) rest h = (alive h.1, h.0.1)
     fits (Pending.DomInit d parts) rest h = (alive h.1, h.0.1)
     fits (Pending.DomAdd d range attr) rest h = (alive h.1, h.0.1)
     fits (Pending.DomRemove d range attr) rest h = (alive h.1, h.0.1)
@@ -199,9 +231,13 @@ module _ (m : State) (t x : ℕ) where
         let lives : is_living (thread_at s t).life ≡ true = at_set (λ n (z : Thread). is_living z.life ≡ true) m.threads who.0 t child nobody refl (alive h.1) in
         set s (set m all who.0 child (none-held, λ dead. absurd (true≢false dead))) t (T.at_steps s.image (record (thread_at s t) { child = None }) rest)
         (h.0 (thread_at s t).checked, λ dead. absurd (true≢false (sym lives ∙ dead)))
+    proper-after (Pending.Cut who) rest h =
+        each-after call_of (IsProper m.image) ignores m t x (Pending.Cut who) rest (λ who script stack priority mode. (none-held, λ dead. absurd (true≢false dead)))
+        (λ th was. (refl, λ dead. ((was.1 dead).0, tt))) all (λ u th image same was. was)
     proper-after q rest h =
-        each-after call_of (IsProper m.image) ignores m t x q rest (λ who script stack priority mode. (none-held, λ dead. absurd (true≢false dead))) all
-        (λ u th image same was. gone-proper m.image known.reached.sited rest u t (next_of m t x q) th image (subst (λ (c : Call). Fits m.image c rest (next_of m t x q)) (sym same) (fits q rest h)) was)
+        each-after call_of (IsProper m.image) ignores m t x q rest (λ who script stack priority mode. (none-held, λ dead. absurd (true≢false dead)))
+        (λ th was. (refl, λ dead. ((was.1 dead).0, tt))) all
+        (λ u th image same was. gone-proper m.image known.reached.sited (thread-below m.image lawful) rest u t (next_of m t x q) th image (subst (λ (c : Call). Fits m.image c rest (next_of m t x q)) (sym same) (fits q rest h)) was)
 
 -- Along a run.
 

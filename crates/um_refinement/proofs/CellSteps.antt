@@ -1,6 +1,8 @@
 -- What a step makes of the cell of an object: only a step that is made there changes it; and how many processors have still to clear it.
-use Rattle.um_refinement.proofs.Words.{◌≡◌, ℕ, zero, suc, ◌+◌, ◌<◌, ◌≤◌, Bool, true, false, cond, [], ◌∷◌, length, Option, Some, None, refl, sym, ap, ◌∙◌, subst, arith, eq-eqb, ◌==◌, ◌&&◌, not, if◌then◌else◌, eqb-false, eqb-true, Image, ROWS, row_at, Pending, State, object_at, FineAct, is_dying, begins_cleaning, check_site, says_idle, site_of_step, p_next, row_number, Todo, Todos, Processor, fails, SiteState, s_next, same_site, site_after, Exchange, FineStep, Site, AreBlocks, Fine, object, one_if, over_processors, row, total, counted, is_recycle, is_wipe, recyclers, wipers, object_after, object_state}
+use Rattle.um_refinement.proofs.Words.{◌≡◌, ℕ, zero, suc, ◌+◌, ◌<◌, ◌≤◌, Bool, true, false, cond, [], ◌∷◌, length, Option, Some, None, refl, sym, ap, ◌∙◌, subst, arith, eq-eqb, ◌==◌, ◌&&◌, not, if◌then◌else◌, eqb-false, eqb-true, Image, ROWS, row_at, Pending, State, object_at, FineAct, Unseen, Act, ◌||◌, act_in, is_dying, begins_cleaning, check_site, site_of_step, p_next, row_number, Todo, Todos, Processor, fails, SiteState, s_next, same_site, site_after, Exchange, FineStep, Site, AreBlocks, Fine, object, one_if, over_processors, row, total, counted, is_recycle, is_wipe, recyclers, wipers, object_after, object_state}
 use Rattle.um_machine.specs.Objects as Plain
+use Rattle.um_fine.specs.Answers.{is_due_act, is_tick, now_in}
+use Rattle.um_fine.specs.Asks.{by_actor, idle_site, says_turn}
 use Rattle.um_refinement.proofs.CleanersSteps.{gain}
 use Rattle.um_refinement.proofs.DomainFacts.{two-parts}
 use Rattle.um_refinement.proofs.Erased.{around}
@@ -10,7 +12,7 @@ use Rattle.um_refinement.proofs.Leaves.{Lawful}
 use Rattle.um_refinement.proofs.ListCounts.{begun, cleans-none, count-cons, next-counts, wipes-of}
 use Rattle.um_refinement.proofs.ListGrowth.{ReadsLast}
 use Rattle.um_refinement.proofs.MemorySteps.{part-total}
-use Rattle.um_refinement.proofs.SchedulerSteps.{made-says}
+use Rattle.um_refinement.proofs.SchedulerSteps.{made-at, made-says}
 use Rattle.um_refinement.proofs.StepReads.{is-behind}
 use Rattle.um_refinement.proofs.Sums.{over-changed}
 use Rattle.um_refinement.proofs.WorkSteps.{object-sort}
@@ -68,12 +70,35 @@ module _ (f : Fine) (m : State) (e : FineStep) (law : Lawful f m e) (x : ℕ) (f
 
   -- a step that takes a thread begins no cleaning
   pub takes-quiet : p.todo ≡ [] → begins_cleaning e ≡ false
-  takes-quiet at = ap (λ a. begins_cleaning (record e { act = a })) (made-says f m e law [] at) ∙ by e.moved
+  takes-quiet at = ap (λ a. begins_cleaning (record e { act = a })) (made-says f m e law [] at) ∙ by (is_due_act e.act) (is_tick e.act)
     where
-      by : (moved : Exchange) → begins_cleaning (record e { act = says_idle f.image p moved }) ≡ false
-      by (Exchange.thread c None) = refl
-      by (Exchange.thread c (Some told)) = refl
-      by moved = refl
+      turn : (moved : Exchange) → begins_cleaning (record e { act = says_turn f.image p moved }) ≡ false
+      turn (Exchange.thread c None) = refl
+      turn (Exchange.thread c (Some told)) = refl
+      turn moved = refl
+
+      by : (due tick : Bool) → begins_cleaning (record e {
+        act = if due then FineAct.Unseen Unseen.Due else if tick then by_actor f.image p (Act.Tick (now_in (act_in e.act))) else says_turn f.image p e.moved;
+      }) ≡ false
+      by true tick = refl
+      by false true = refl
+      by false false = turn e.moved
+
+  -- and it is made at the scheduler, or at the clock
+  pub takes-off : p.todo ≡ [] → same_site e.site (Site.row x) ≡ false
+  takes-off at = ap (λ i. same_site i (Site.row x)) (made-at f m e law [] at) ∙ by (is_due_act e.act || is_tick e.act)
+    where
+      by : (b : Bool) → same_site (if b then Site.clock else Site.scheduler) (Site.row x) ≡ false
+      by true = refl
+      by false = refl
+
+  -- or at any site but those
+  pub takes-apart : (site : Site) → ((act : FineAct) → same_site Site.clock site ≡ false → same_site Site.scheduler site ≡ false → same_site (idle_site f.image p act) site ≡ false)
+  takes-apart site act clock scheduler = by (is_due_act act || is_tick act)
+    where
+      by : (b : Bool) → same_site (if b then Site.clock else Site.scheduler) site ≡ false
+      by true = clock
+      by false = scheduler
 
   pub cell-else : same_site e.site (Site.object x) ≡ false → object later x ≡ object f x
   cell-else off = ap (λ b. object_state (cond b (s_next f.image (f.sites (Site.object x)) e) (f.sites (Site.object x)))) off

@@ -1,25 +1,26 @@
 -- Cleanings stand on a list in order: the cell of one object at most was cleared that is still to be recycled, and the processor has with it
 -- what the buffer of that one cost, after every lawful step.
-use Rattle.um_refinement.proofs.Words.{◌≡◌, inl, inr, ℕ, zero, suc, ◌+◌, ◌<◌, ◌≤◌, Bool, true, false, cond, List, [], ◌∷◌, length, refl, sym, ap, ◌∙◌, subst, arith, eq-eqb, ◌==◌, ◌&&◌, not, slice_index_or, slice_set, and_parts, eqb-false, eqb-true, false≢true, get_or-set_other, Image, ROWS, own_row, Object, Status, Pending, Steps, to_thread, MayChoose, State, object_at, thread_at, vacant, FineAct, Unseen, is_dying, charge_in, begins_cleaning, says, Cell, goes_on_by, p_next, row_number, ObjectCell, Todo, Todos, Processor, SiteState, site_moves, Exchange, FineStep, Site, AreBlocks, Cleans, Fine, object, one_if, row, counted, has_steps, is_recycle, is_wipe, cell_of, recyclers, wipers, CleaningIs, is_cleared}
+use Rattle.um_refinement.proofs.Words.{◌≡◌, inl, inr, ℕ, zero, suc, ◌+◌, ◌<◌, ◌≤◌, Bool, true, false, cond, List, [], ◌∷◌, length, refl, sym, ap, ◌∙◌, subst, arith, eq-eqb, ◌==◌, ◌&&◌, not, slice_index_or, slice_set, and_parts, eqb-false, eqb-true, false≢true, get_or-set_other, Image, ROWS, own_row, Object, Status, Pending, Steps, to_thread, MayChoose, State, object_at, thread_at, vacant, FineAct, Unseen, is_dying, charge_in, begins_cleaning, Cell, goes_on_by, p_next, row_number, ObjectCell, Todo, Todos, Processor, SiteState, site_moves, Exchange, FineStep, Site, AreBlocks, Cleans, Fine, object, one_if, row, counted, is_recycle, is_wipe, cell_of, recyclers, wipers, CleaningIs, is_cleared}
 use Rattle.um_machine.specs.declared.contents.Contents.TheVariants as Contents
+use Rattle.um_words.specs.declared.fine.Mark.{Mark}
 use Rattle.um_machine.specs.Objects as Plain
 use Rattle.um_machine.specs.Table as T
 use Rattle.um_refinement.proofs.CellSteps.{clears-few, takes-quiet, wipers-few, wipes-gain}
 use Rattle.um_refinement.proofs.CleanersSteps.{gain, no-gain, recycles-gain}
-use Rattle.um_refinement.proofs.ContentsKept.{beside-kept, cell-beside, clean-kept, work-objects}
+use Rattle.um_refinement.proofs.ContentsKept.{IsBeside, queues-kept, beside-kept, cell-beside, clean-kept, work-objects}
 use Rattle.um_refinement.proofs.DomainFacts.{two-parts}
 use Rattle.um_refinement.proofs.Erased.{around, later}
 use Rattle.um_refinement.proofs.FirstThreads.{one-most}
 use Rattle.um_refinement.proofs.HeldRows.{checked-claimed, claimed-kept}
 use Rattle.um_refinement.proofs.LawfulSteps.{Suits}
-use Rattle.um_refinement.proofs.Leaves.{Lawful, Leaves, cleans, drops, event, nothing, passes, recycles, resumes}
+use Rattle.um_refinement.proofs.Leaves.{Beside, Lawful, Leaves, beside, cuts, expires, leaves, ticks, times_out, cleans, drops, event, nothing, passes, recycles, resumes}
 use Rattle.um_refinement.proofs.ListBlocks.{blocks-next}
 use Rattle.um_refinement.proofs.ListCounts.{count-cons, next-counts, recycles-of, takes-counts, wipes-of}
 use Rattle.um_refinement.proofs.ListGrowth.{ReadsLast}
-use Rattle.um_refinement.proofs.ListTails.{exact-next}
+use Rattle.um_refinement.proofs.ListTails.{quiet-next}
 use Rattle.um_refinement.proofs.MemorySteps.{part-total}
 use Rattle.um_refinement.proofs.ObjectsKept.{set-kept}
-use Rattle.um_refinement.proofs.Offered.{IsStep, Shows, shown-offers, shown-on}
+use Rattle.um_refinement.proofs.Offered.{runs-first, IsStep, Shows, shown-offers, shown-on}
 use Rattle.um_refinement.proofs.SchedulerSteps.{made-at, made-says}
 use Rattle.um_refinement.proofs.StepReads.{is-behind}
 use Rattle.um_refinement.proofs.WordsKept.{IsShown}
@@ -43,6 +44,9 @@ cleared-more image x (Todo.recycle z ∷ todo) h c =
     let one = ap one_if c in
     omega (arith, few, recs, one)
 cleared-more image x (q ∷ todo) h c = absurd (false≢true c)
+
+buffer-beside : IsBeside (λ (o : Object). o.buffer)
+buffer-beside = record { status = λ o status. refl; public = λ o. refl; init = λ o init. refl }
 
 module _ (f : Fine) (m : State) (e : FineStep) (law : Lawful f m e) (x : ℕ) (few : x < ROWS) where
   open around f e use {processor as p, now}
@@ -71,7 +75,7 @@ module _ (f : Fine) (m : State) (e : FineStep) (law : Lawful f m e) (x : ℕ) (f
   even same = by (is_cleared x now.todo) refl
     where
       by : (b : Bool) → is_cleared x now.todo ≡ b → Order now.todo
-      by true c = let more = cleared-more f.image x now.todo (blocks-next f.image p e (law.rel.processors e.cpu law.by.named).blocks) c in absurd (omega (arith, same, more))
+      by true c = let more = cleared-more f.image x now.todo (blocks-next f.image p e (law.rel.processors e.cpu law.by.named).frames (law.rel.processors e.cpu law.by.named).blocks) c in absurd (omega (arith, same, more))
       by false c = let none = ap one_if c in omega (arith, same, none)
 
   module _ (q : Todo) (todo : Todos) (at : p.todo ≡ q ∷ todo) (last : ReadsLast e q todo) where
@@ -115,8 +119,8 @@ module _ (f : Fine) (m : State) (e : FineStep) (law : Lawful f m e) (x : ℕ) (f
       let r = count-cons (is_recycle x) (Todo.recycle z) todo in
       omega (arith, before, r)
 
-  list-is : (q : Todo) (todo : Todos) → p.todo ≡ q ∷ todo → begins_cleaning e ≡ false → now ≡ goes_on_by f.image p e (q ∷ todo)
-  list-is q todo at none = exact-next f.image p e (q ∷ todo) at none
+  list-is : (q : Todo) (todo : Todos) (u : Unseen) → p.todo ≡ q ∷ todo → e.act ≡ FineAct.Unseen u → begins_cleaning (record e { act = FineAct.Unseen u }) ≡ false → now ≡ goes_on_by f.image p e (q ∷ todo)
+  list-is q todo u at said none = quiet-next f.image p e (q ∷ todo) u at said none
 
   nothing-left : p.todo ≡ [] → Recs now.todo ≡ Wipes now.todo
   nothing-left at =
@@ -124,10 +128,10 @@ module _ (f : Fine) (m : State) (e : FineStep) (law : Lawful f m e) (x : ℕ) (f
       ∙ sym (takes-counts (is_wipe x) (wipes-of x) f.image p e at (takes-quiet f m e law x few at))
 
   -- a step that clears this object's cell, or vacates its row, leaves the rest of its cleaning
-  order-after : (q : Todo) (todo : Todos) → p.todo ≡ q ∷ todo → ReadsLast e q todo → begins_cleaning (record e { act = says f.image p (q ∷ todo) e.act e.moved }) ≡ false
+  order-after : (q : Todo) (todo : Todos) (u : Unseen) → p.todo ≡ q ∷ todo → ReadsLast e q todo → e.act ≡ FineAct.Unseen u → begins_cleaning (record e { act = FineAct.Unseen u }) ≡ false
       → is_cleared x (goes_on_by f.image p e (q ∷ todo)).todo ≡ true → Recs todo ≡ Wipes todo + 1 → Order now.todo
-  order-after q todo at last quiet cleared one-more =
-      let next = list-is q todo at (ap (λ a. begins_cleaning (record e { act = a })) (made-says f m e law (q ∷ todo) at) ∙ quiet) in
+  order-after q todo u at last said quiet cleared one-more =
+      let next = list-is q todo u at said quiet in
       let one = ap one_if (ap (λ (z : Processor). is_cleared x z.todo) next ∙ cleared) in
       let r = recs-now q todo at last in
       let w = wipes-now q todo at last in
@@ -142,13 +146,13 @@ module _ (f : Fine) (m : State) (e : FineStep) (law : Lawful f m e) (x : ℕ) (f
           let before = order-was (Todo.wipe z ∷ todo) at in
           let wipes = count-cons (is_wipe x) (Todo.wipe z) todo in
           let one = ap one_if k in
-          order-after (Todo.wipe z) todo at tt refl (ap (is_cleared x) (blocks (Todo.wipe z ∷ todo) at).0.1 ∙ k) (omega (arith, before, wipes, one))
+          order-after (Todo.wipe z) todo Unseen.Wipe at tt (made-says f m e law (Todo.wipe z ∷ todo) at) refl (ap (is_cleared x) (blocks (Todo.wipe z ∷ todo) at).0.1 ∙ k) (omega (arith, before, wipes, one))
 
       by-vacate : (z : ℕ) (todo : Todos) → p.todo ≡ Todo.vacate z ∷ todo → (b : Bool) → (x == z) ≡ b → Order now.todo
       by-vacate z todo at false k = even (level (Todo.vacate z) todo at tt (vacate-other z todo at k))
       by-vacate z todo at true k =
           let before = order-was (Todo.vacate z ∷ todo) at in
-          let one = ap one_if k in order-after (Todo.vacate z) todo at tt refl (ap (is_cleared x) (blocks (Todo.vacate z ∷ todo) at).0.1 ∙ k) (omega (arith, before, one))
+          let one = ap one_if k in order-after (Todo.vacate z) todo Unseen.Vacate at tt (made-says f m e law (Todo.vacate z ∷ todo) at) refl (ap (is_cleared x) (blocks (Todo.vacate z ∷ todo) at).0.1 ∙ k) (omega (arith, before, one))
 
       by : (todo : Todos) → p.todo ≡ todo → Order now.todo
       by [] at = even (nothing-left at)
@@ -177,7 +181,7 @@ module _ (f : Fine) (m : State) (e : FineStep) (law : Lawful f m e) (x : ℕ) (f
       (and_parts (Plain.is_gone (object_at m x).status) _ (one-true (Plain.is_gone (object_at m x).status && not (is_dying (row f x).stage)) (omega (arith, some, c)))).0
 
   -- the cell that is cleared has the object's buffer
-  whole-at : (todo : Todos) → p.todo ≡ Todo.wipe x ∷ todo → object f x ≡ cell_of (object_at m x)
+  whole-at : (todo : Todos) → p.todo ≡ Todo.wipe x ∷ todo → object f x ≡ cell_of (object f x).noted (object_at m x)
   whole-at todo at = (law.rel.rows x few).contents.whole (omega (arith, all, part, wipes, m1, mine))
     where
       all : wipers f x ≤ recyclers f x
@@ -197,7 +201,7 @@ module _ (f : Fine) (m : State) (e : FineStep) (law : Lawful f m e) (x : ℕ) (f
 
   charge-at : (todo : Todos) → p.todo ≡ Todo.wipe x ∷ todo → now.charge ≡ (object_at m x).buffer
   charge-at todo at =
-      ap (λ (z : Processor). z.charge) (list-is (Todo.wipe x) todo at (ap (λ a. begins_cleaning (record e { act = a })) said))
+      ap (λ (z : Processor). z.charge) (list-is (Todo.wipe x) todo Unseen.Wipe at said refl)
       ∙ (ap charge_in (sym moved) ∙ ap (λ (o : ObjectCell). o.buffer) (whole-at todo at))
     where
       said : e.act ≡ FineAct.Unseen Unseen.Wipe
@@ -230,22 +234,33 @@ module _ (f : Fine) (m : State) (e : FineStep) (law : Lawful f m e) (x : ℕ) (f
           let g = no-gain f m e law x few next in
           let recs : Recs p.todo ≡ Recs todo = ap Recs at in
           let wipes : Wipes p.todo ≡ Wipes todo = ap Wipes at in
-          ap (λ (z : Processor). z.charge) (list-is (Todo.vacate z) todo at next) ∙ was.charged (omega (arith, some, r, g, recs)) (omega (arith, none, w, g, wipes))
+          ap (λ (z : Processor). z.charge) (list-is (Todo.vacate z) todo Unseen.Vacate at (made-says f m e law (Todo.vacate z ∷ todo) at) refl) ∙ was.charged (omega (arith, some, r, g, recs)) (omega (arith, none, w, g, wipes))
       by false k = none-left (level (Todo.vacate z) todo at tt (vacate-other z todo at k)) some none
   unseen-mine some none (Todo.recycle z ∷ todo) at = none-left (level (Todo.recycle z) todo at tt (behind-recycle z todo at)) some none
   unseen-mine some none (Todo.show q rest ∷ todo) at =
       none-left (level (Todo.show q rest) todo at (last-shown q rest todo at) (plain (Todo.show q rest) todo at (last-shown q rest todo at) refl refl refl)) some none
   unseen-mine some none (q ∷ todo) at = none-left (level q todo at tt (plain q todo at tt refl refl refl)) some none
 
+  on-beside : (t y : ℕ) (q : Pending) → Beside f m e t y q → 0 < Recs now.todo → Wipes now.todo ≡ 0 → now.charge ≡ (object_at (T.after m t y q (thread_at m t).pending) x).buffer
+  on-beside t y _ (cuts who site before _ todo at place inside said) some none =
+      let z = Todo.look who site before in none-left (level z todo at tt (plain z todo at tt refl refl refl)) some none
+  on-beside t y _ (times_out deadline site _ who todo at place inside said) some none =
+      let z = Todo.handle deadline (Mark.Thread who site) in none-left (level z todo at tt (plain z todo at tt refl refl refl)) some none
+  on-beside t y _ (expires deadline x todo at inside said) some none =
+      let z = Todo.handle deadline (Mark.Timer x) in none-left (level z todo at tt (plain z todo at tt refl refl refl)) some none
+  on-beside t y _ (ticks at said) some none = none-left (nothing-left at) some none
+  on-beside t y _ (leaves todo at said) some none = none-left (level Todo.leave todo at tt (plain Todo.leave todo at tt refl refl refl)) some none
+
   charged-mine : (s : State) → Leaves f m e s → 0 < Recs now.todo → Wipes now.todo ≡ 0 → now.charge ≡ (object_at s x).buffer
   charged-mine _ (nothing u said) some none = unseen-mine some none p.todo refl
   charged-mine _ (event q rest todo n h shown is) some none =
-      none-left (level (Todo.show q rest) todo h.at (last-shown q rest todo h.at) (plain (Todo.show q rest) todo h.at (last-shown q rest todo h.at) refl refl refl)) some none
+      let last = last-shown h.listed rest todo h.at in none-left (level (Todo.show h.listed rest) todo h.at last (plain (Todo.show h.listed rest) todo h.at last refl refl refl)) some none
   charged-mine _ (resumes c told rest at moved said) some none = none-left (nothing-left at) some none
   charged-mine _ (passes who y rest todo h said) some none = none-left (level (Todo.pass who y) todo h.at tt (plain (Todo.pass who y) todo h.at tt refl refl refl)) some none
   charged-mine _ (drops from y rest todo h said) some none = none-left (level (Todo.drop y) todo h.at tt (plain (Todo.drop y) todo h.at tt refl refl refl)) some none
   charged-mine _ (cleans who y rest todo h said) some none = none-left (level (Todo.clean_pair who y) todo h.at tt (plain (Todo.clean_pair who y) todo h.at tt refl refl refl)) some none
   charged-mine _ (recycles y rest todo at l said chosen) some none = none-left (level (Todo.recycle y) todo at tt (behind-recycle y todo at)) some none
+  charged-mine _ (beside t y q how chosen started) some none = on-beside t y q how some none
 
   -- An object that another processor cleans keeps its buffer.
 
@@ -273,7 +288,7 @@ module _ (f : Fine) (m : State) (e : FineStep) (law : Lawful f m e) (x : ℕ) (f
         apart : x ≡ T.row_of m a → ⊥
         apart at =
             let held = ap (λ r. slice_index_or (thread_at m p.context.thread).checked r false) at ∙ suits.works p.context.thread a ask rest (shown-offers h) in
-            let none = (claimed-kept f m law.rel x few (checked-claimed f m law.rel e.cpu x law.by.named few (ap has_steps h.at) (shown-on h) held)).1 in
+            let none = (claimed-kept f m law.rel x few (checked-claimed f m law.rel e.cpu x law.by.named few (runs-first law.rel law.by.named (Todo.show h.listed rest) todo h.at (λ hand. hand)) (shown-on h) held)).1 in
             let some = some-one in
             omega (arith, none, some)
     by-event (Pending.Named who) rest todo n h shown is =
@@ -295,16 +310,19 @@ module _ (f : Fine) (m : State) (e : FineStep) (law : Lawful f m e) (x : ℕ) (f
     by-event (Pending.Drops from) rest todo n h shown is = absurd shown
     by-event (Pending.CleanPair who) rest todo n h shown is = absurd shown
     by-event Pending.Recycle rest todo n h shown is = absurd shown
-    by-event q rest todo n h shown is = ap (λ (o : ObjectCell). o.buffer) (beside-kept cell_of cell-beside m x p.context.thread n q rest refl)
+    by-event (Pending.TimeOut who) rest todo n h shown is = absurd shown
+    by-event Pending.Expire rest todo n h shown is = absurd shown
+    by-event (Pending.Cut who) rest todo n h shown is = absurd shown
+    by-event q rest todo n h shown is = ap (λ (o : ObjectCell). o.buffer) (beside-kept (cell_of []) (cell-beside []) m x p.context.thread n q rest refl)
 
     buffer-stays : (s : State) → Leaves f m e s → (object_at s x).buffer ≡ (object_at m x).buffer
     buffer-stays _ (nothing u said) = refl
     buffer-stays _ (event q rest todo n h shown is) = by-event q rest todo n h shown is
-    buffer-stays _ (resumes c told rest at moved said) = ap (λ (o : ObjectCell). o.buffer) (beside-kept cell_of cell-beside m x c.thread 0 Pending.Resume rest refl)
+    buffer-stays _ (resumes c told rest at moved said) = ap (λ (o : ObjectCell). o.buffer) (beside-kept (cell_of []) (cell-beside []) m x c.thread 0 Pending.Resume rest refl)
     buffer-stays _ (passes who y rest todo h said) = refl
-    buffer-stays _ (drops from y rest todo h said) = ap (λ (o : ObjectCell). o.buffer) (beside-kept cell_of cell-beside m x p.context.thread y (Pending.Drops from) rest refl)
+    buffer-stays _ (drops from y rest todo h said) = ap (λ (o : ObjectCell). o.buffer) (beside-kept (cell_of []) (cell-beside []) m x p.context.thread y (Pending.Drops from) rest refl)
     buffer-stays _ (cleans who y rest todo h said) =
-        ap (λ (o : ObjectCell). o.buffer) (clean-kept cell_of cell-beside (λ o by. refl) m x p.context.thread y (to_thread who) rest)
+        ap (λ (o : ObjectCell). o.buffer) (clean-kept (cell_of []) (cell-beside []) (λ o by. refl) m x p.context.thread y (to_thread who) rest)
     buffer-stays _ (recycles y rest todo at few-y said chosen) = other y vacant apart
       where
         apart : x ≡ y → ⊥
@@ -314,6 +332,14 @@ module _ (f : Fine) (m : State) (e : FineStep) (law : Lawful f m e) (x : ℕ) (f
             let one = ap one_if (eq-eqb x y same) in
             let one-only = most in
             omega (arith, both, mine, one, one-only, cleans-it)
+    buffer-stays _ (beside t y q how chosen started) = ends t y q how
+      where
+        ends : (t y : ℕ) (q : Pending) → Beside f m e t y q → (object_at (T.after m t y q (thread_at m t).pending) x).buffer ≡ (object_at m x).buffer
+        ends t y _ (cuts who site before _ todo at place inside said) = queues-kept (λ (o : Object). o.buffer) buffer-beside (λ o contents waiters. refl) m x t y (Pending.Cut (to_thread who)) (thread_at m t).pending refl
+        ends t y _ (times_out deadline site _ who todo at place inside said) = queues-kept (λ (o : Object). o.buffer) buffer-beside (λ o contents waiters. refl) m x t y (Pending.TimeOut who) (thread_at m t).pending refl
+        ends t y _ (expires deadline z todo at inside said) = queues-kept (λ (o : Object). o.buffer) buffer-beside (λ o contents waiters. refl) m x t y Pending.Expire (thread_at m t).pending refl
+        ends t y _ (ticks at said) = queues-kept (λ (o : Object). o.buffer) buffer-beside (λ o contents waiters. refl) m x t y Pending.Tick (thread_at m t).pending refl
+        ends t y _ (leaves todo at said) = queues-kept (λ (o : Object). o.buffer) buffer-beside (λ o contents waiters. refl) m x t y Pending.Left (thread_at m t).pending refl
 
   pub order-part : (k : ℕ) → k < f.cpus → Recs ((later f e).processors k).todo ≡ Wipes ((later f e).processors k).todo + one_if (is_cleared x ((later f e).processors k).todo)
   order-part k l = by (e.cpu == k) refl
@@ -326,7 +352,7 @@ module _ (f : Fine) (m : State) (e : FineStep) (law : Lawful f m e) (x : ℕ) (f
       by false q = subst (λ (z : Processor). Order z.todo) (sym (ap kth q)) ((law.rel.processors k l).cleaning x few).order
 
   pub charged-part : Suits f m → (s : State) → Leaves f m e s → (k : ℕ) → k < f.cpus → Cleans (later f e) k x → Wipes ((later f e).processors k).todo ≡ 0 → ((later f e).processors k).charge ≡ (object_at s x).buffer
-  charged-part suits s leaves k l = by (e.cpu == k) refl
+  charged-part suits s how k l = by (e.cpu == k) refl
     where
       kth : Bool → Processor
       kth b = cond b (p_next f.image (f.processors k) e) (f.processors k)
@@ -335,7 +361,7 @@ module _ (f : Fine) (m : State) (e : FineStep) (law : Lawful f m e) (x : ℕ) (f
       Charged z = 0 < Recs z.todo → Wipes z.todo ≡ 0 → z.charge ≡ (object_at s x).buffer
 
       by : (b : Bool) → (e.cpu == k) ≡ b → Charged (kth (e.cpu == k))
-      by true q = subst Charged (sym (ap kth q ∙ ap (λ (z : Processor). p_next f.image z e) (sym (ap f.processors (eqb-true e.cpu k q))))) (charged-mine s leaves)
+      by true q = subst Charged (sym (ap kth q ∙ ap (λ (z : Processor). p_next f.image z e) (sym (ap f.processors (eqb-true e.cpu k q))))) (charged-mine s how)
       by false q =
           subst Charged (sym (ap kth q))
-          (λ some none. ((law.rel.processors k l).cleaning x few).charged some none ∙ sym (buffer-stays suits k l (eqb-false e.cpu k q) some s leaves))
+          (λ some none. ((law.rel.processors k l).cleaning x few).charged some none ∙ sym (buffer-stays suits k l (eqb-false e.cpu k q) some s how))

@@ -1,6 +1,8 @@
 -- The steps that are left of a call name a new thread in order: the permission on its own object, what it inherits, and its start; and between
 -- them that thread is the child of the one that makes it.
-use Rattle.um_refinement.proofs.Words.{◌≡◌, ℕ, Bool, true, false, [], ◌∷◌, ◌++◌, Option, Some, None, refl, ℤ, if◌then◌else◌, Cause, Ask, Image, Instr, Options, Errno, Kind, Mode, Row, ThreadIx, Pending, Thread, Steps, answer_error, answer_zero, buffered, creates, privileged, steps_of, to_addr, work}
+use Rattle.um_base.specs.declared.names.Timeout.{Timeout}
+use Rattle.um_machine.specs.Order.{aborts, answer_void, arms}
+use Rattle.um_refinement.proofs.Words.{◌≡◌, ℕ, Bool, true, false, [], ◌∷◌, ◌++◌, Option, Some, None, refl, ◌==◌, ℤ, if◌then◌else◌, Cause, Ask, Image, Instr, Options, Errno, Kind, Mode, Row, ThreadIx, Pending, Thread, Steps, answer_error, answer_zero, buffered, creates, privileged, steps_of, to_addr, to_thread, work}
 
 -- behind the permission on its own object a new thread inherits, or is started; and nowhere else
 abbrev pub InOrder : Steps → Type 0
@@ -38,6 +40,14 @@ order-buffered : (a : ℕ) (kind : Kind) (lawful : Bool) (size : ℕ) (ask : Ask
 order-buffered a kind true size ask = tt
 order-buffered a kind false size ask = tt
 
+order-arms : (timeout : Timeout) (steps : Steps) → InOrder steps → InOrder (arms timeout steps)
+order-arms Timeout.NoWait steps h = h
+order-arms (Timeout.Ticks ticks) steps h = h
+order-arms Timeout.Forever steps h = h
+
+order-aborts : (t who : ℕ) → InOrder (aborts t who)
+order-aborts t who = elim (who == t) as (λ b. InOrder (Pending.Abort (to_thread who) ∷ (if b then Pending.Killed ∷ [] else answer_void))) [ true ↦ tt | false ↦ tt ]
+
 order-inherit : (inherits : Bool) (who : ThreadIx) (script : ℕ) (stack : Row) (priority : ℤ) (mode : Mode) (rest : Steps) → InOrder rest
     → InOrder (Pending.Own who ∷ ((if inherits then Pending.Inherit who ∷ [] else []) ++ Pending.Start who script stack priority mode ∷ rest))
 order-inherit true who script stack priority mode rest h = (refl, refl, h)
@@ -61,4 +71,14 @@ module _ (image : Image) (t : ℕ) (me : Thread) where
   order-steps (Instr.MsgqInit object msg_size max_msgs) = order-buffered _ Kind.Msgq _ _ _
   order-steps (Instr.StackInit object entries) = order-buffered _ Kind.Stack _ _ _
   order-steps (Instr.PipeInit object size) = order-buffered _ Kind.Pipe _ _ _
+  order-steps (Instr.SemTake object timeout) = order-arms timeout _ tt
+  order-steps (Instr.MutexLock object timeout) = order-arms timeout _ tt
+  order-steps (Instr.MsgqPut object addr timeout) = order-arms timeout _ tt
+  order-steps (Instr.MsgqGet object addr timeout) = order-arms timeout _ tt
+  order-steps (Instr.StackPop object addr timeout) = order-arms timeout _ tt
+  order-steps (Instr.PipeWrite object addr length timeout) = order-arms timeout _ tt
+  order-steps (Instr.PipeRead object addr length timeout) = order-arms timeout _ tt
+  order-steps (Instr.Join thread timeout) = order-arms timeout _ tt
+  order-steps (Instr.FutexWait addr value timeout) = order-arms timeout _ tt
+  order-steps (Instr.Abort thread) = order-aborts t _
   order-steps instr = tt

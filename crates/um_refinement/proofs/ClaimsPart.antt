@@ -1,5 +1,9 @@
 -- The word of each row counts all claims of it, after every lawful step.
-use Rattle.um_refinement.proofs.Words.{◌≡◌, inr, ℕ, ◌+◌, ◌<◌, Bool, true, false, List, [], ◌∷◌, Option, Some, None, refl, sym, ap, ◌∙◌, subst, arith, ℤ, ◌==◌, ◌&&◌, if◌then◌else◌, is_some, slice_index_or, unwrap_or, list_any, and_parts, eqb-true, false≢true, ltb-true, true≢false, Act, Image, ROWS, Addr, Errno, Kind, Mode, Row, ThreadIx, Want, IsLawful, own_row, row_at, Pending, Refusal, Thread, Steps, to_thread, Offers, goes, skips_drops, skips_inherit, State, thread_at, claims, Call, call_is, FineAct, Unseen, RowWord, after_verdict, dropped, has, is_cleaning, is_last, row_after, row_says, row_named, act_in, context_in, given_in, is_word_read, verdict_in, check_site, says_show, site_at, Todo, Todos, SiteState, same_site, site_answers, FineStep, Site, same-sound, call_claims, Fine, one_if, over_processors, row, scheduler, AreFramed, counted, has_steps, is_done, is_end_call, Fits, is_over, occurs, ClaimsAre, tends, tends}
+use Rattle.um_refinement.proofs.Words.{not, runs, waits, ◌≡◌, inr, ℕ, ◌+◌, ◌<◌, Bool, true, false, List, [], ◌∷◌, Option, Some, None, refl, sym, ap, ◌∙◌, subst, arith, ℤ, ◌==◌, ◌&&◌, if◌then◌else◌, is_some, slice_index_or, unwrap_or, list_any, and_parts, eqb-true, false≢true, ltb-true, true≢false, Act, Image, ROWS, Addr, Errno, Kind, Mode, Row, ThreadIx, Want, IsLawful, own_row, row_at, Pending, Refusal, Thread, Steps, to_thread, Offers, goes, skips_drops, skips_inherit, State, thread_at, claims, Call, call_is, FineAct, Unseen, RowWord, after_verdict, dropped, has, is_cleaning, is_last, row_after, row_named, act_in, context_in, given_in, is_word_read, verdict_in, check_site, says_show, site_at, Todo, Todos, same_site, FineStep, Site, call_claims, Fine, one_if, over_processors, row, scheduler, AreFramed, counted, has_steps, is_done, is_end_call, Fits, is_over, occurs, ClaimsAre, tends, tends}
+use Rattle.um_words.specs.declared.fine.Mark.{Mark}
+use Rattle.um_fine.specs.Asks.{site_by}
+use Rattle.um_fine.specs.Follows.{shown_step}
+use Rattle.um_refinement.specs.Lists.{is_sleep, times}
 use Rattle.um_machine.specs.Objects as Plain
 use Rattle.um_machine.specs.Table as T
 use Rattle.um_refinement.specs.Claims as C
@@ -13,19 +17,21 @@ use Rattle.um_refinement.proofs.ContextsPart.{flags-none, is_shown, read-only}
 use Rattle.um_refinement.proofs.DomainReads.{eqb-swap}
 use Rattle.um_refinement.proofs.Erased.{around}
 use Rattle.um_refinement.proofs.LawfulSteps.{Suits}
-use Rattle.um_refinement.proofs.Leaves.{Lawful, Leaves, cleans, drops, event, nothing, passes, recycles, resumes}
+use Rattle.um_refinement.proofs.Leaves.{Beside, Lawful, Leaves, beside, cuts, expires, leaves, ticks, times_out, cleans, drops, event, nothing, passes, recycles, resumes}
 use Rattle.um_refinement.proofs.LifeClaims.{births, lives, sums-clear, sums-own, sums-start, sums-stay}
-use Rattle.um_refinement.proofs.ListClaims.{IsThread, come, come_to, gone, processor-claims}
+use Rattle.um_refinement.proofs.ListClaims.{come, come_to, gone, processor-claims}
 use Rattle.um_refinement.proofs.ListGrips.{read-rests}
-use Rattle.um_refinement.proofs.Offered.{IsStep, Shows, own-part, shown-offers, site-is}
-use Rattle.um_refinement.proofs.ParkedClaims.{parked-added, parked-done, parked-else, parked-put, parked-taken, parked-wake, parked_claims}
-use Rattle.um_refinement.proofs.PartsElsewhere.{takes-first}
-use Rattle.um_refinement.proofs.RowSteps.{named-row, row-stands}
+use Rattle.um_refinement.proofs.Offered.{own-unless, runs-first, IsStep, Shows, own-part, shown-offers, site-is}
+use Rattle.um_refinement.proofs.ParkedClaims.{parked-cut, parked-owe, parked-paid, parked-added, parked-done, parked-else, parked-put, parked-taken, parked-wake, parked_claims}
+use Rattle.um_refinement.proofs.StepReads.{is-placed}
+use Rattle.um_refinement.proofs.WaitingSites.{waiting-apart}
+use Rattle.um_refinement.proofs.CellSteps.{takes-off}
+use Rattle.um_refinement.proofs.RowSteps.{named-row}
 use Rattle.um_refinement.proofs.RowClaims.{dropped-claims, row-claims}
-use Rattle.um_refinement.proofs.RowStages.{IsStaged, staged-after}
 use Rattle.um_refinement.proofs.RunningPart.{is_scheduling}
 use Rattle.um_refinement.proofs.SchedulerSteps.{made-at, made-says}
-use Rattle.um_refinement.proofs.StatusPart.{free-is}
+use Rattle.um_refinement.proofs.StagedPart.{staged}
+use Rattle.um_refinement.proofs.StatusSteps.{free-is}
 use Rattle.um_refinement.proofs.Sums.{over-changed}
 use Rattle.um_refinement.proofs.WordsKept.{IsShown}
 
@@ -35,6 +41,8 @@ is_still (Todo.show q rest) = false
 is_still (Todo.end_call x) = false
 is_still Todo.park = false
 is_still Todo.done = false
+is_still Todo.sleep = false
+is_still Todo.paid = false
 is_still q = true
 
 module _ (f : Fine) (m : State) (e : FineStep) (law : Lawful f m e) (x : ℕ) (few : x < ROWS) where
@@ -42,34 +50,13 @@ module _ (f : Fine) (m : State) (e : FineStep) (law : Lawful f m e) (x : ℕ) (f
 
   -- The word.
 
-  row-says-it : same_site e.site (Site.row x) ≡ true → row_says (row f x) e.act ≡ e.act
-  row-says-it on =
-      subst (λ (z : SiteState). site_answers f.image z e.moved e.act ≡ e.act) (row-stands f m law.rel x)
-      (subst (λ (i : Site). site_answers f.image (f.sites i) e.moved e.act ≡ e.act) (same-sound e.site (Site.row x) on) (ap (λ (s : FineStep). s.act) law.taken.filled_in))
-
-  staged : IsStaged (row later x)
-  staged = by (same_site e.site (Site.row x)) refl
-    where
-      was : IsStaged (row f x)
-      was = record { dying = (law.rel.rows x few).claims.dying; free = (law.rel.rows x few).claims.free }
-
-      by : (b : Bool) → same_site e.site (Site.row x) ≡ b → IsStaged (row later x)
-      by true on =
-          let word = row-here f m e law x few on e.act refl in
-          let next = staged-after (row f x) e.act (row-takes-it f m e law x few on e.act refl) (row-says-it on) was in
-          record {
-            dying = λ d. subst (λ n. 0 < n) (sym (ap (λ (w : RowWord). w.claims) word)) (next.dying (sym (ap (λ (w : RowWord). w.stage) word) ∙ d));
-            free = λ d. ap (λ (w : RowWord). w.claims) word ∙ next.free (sym (ap (λ (w : RowWord). w.stage) word) ∙ d);
-          }
-      by false off = subst IsStaged (sym (row-else f m e law x few off)) was
-
   abbrev Same : Type 0
   Same = (row later x).claims ≡ (row f x).claims
 
   word-else : same_site e.site (Site.row x) ≡ false → Same
   word-else off = ap (λ (w : RowWord). w.claims) (row-else f m e law x few off)
 
-  word-at : (todo : Todos) → p.todo ≡ todo → same_site (site_at f.image p todo) (Site.row x) ≡ false → Same
+  word-at : (todo : Todos) → p.todo ≡ todo → same_site (site_by f.image p todo e.act) (Site.row x) ≡ false → Same
   word-at todo at off = word-else (ap (λ i. same_site i (Site.row x)) (made-at f m e law todo at) ∙ off)
 
   word-same : (act : FineAct) → e.act ≡ act → (row_after (row f x) act).claims ≡ (row f x).claims → Same
@@ -84,8 +71,8 @@ module _ (f : Fine) (m : State) (e : FineStep) (law : Lawful f m e) (x : ℕ) (f
   abbrev calls : Fine → ℕ
   calls g = over_processors g (call_claims x)
 
-  idle : (p.todo ≡ []) → (p.context.claims ≡ []) × IsThread e.moved
-  idle at = ((law.rel.processors e.cpu law.by.named).idle.idle (ap has_steps at), subst IsThread (sym (takes-first f m e law at).moved) tt)
+  idle : p.todo ≡ [] → p.context.claims ≡ []
+  idle at = (law.rel.processors e.cpu law.by.named).idle.idle (ap (λ (z : Todos). has_steps z && not (times z)) at)
 
   calls-changed : (todo : Todos) → p.todo ≡ todo → calls later + gone f.image x p e todo ≡ calls f + come_to f.image x p e todo
   calls-changed todo at =
@@ -124,12 +111,14 @@ module _ (f : Fine) (m : State) (e : FineStep) (law : Lawful f m e) (x : ℕ) (f
       by (Todo.end_call y) at h = absurd (false≢true h)
       by Todo.park at h = absurd (false≢true h)
       by Todo.done at h = absurd (false≢true h)
+      by Todo.sleep at h = absurd (false≢true h)
+      by Todo.paid at h = absurd (false≢true h)
       by q at h = from q at refl refl
 
   -- A thread is taken.
   takes : (s : State) → p.todo ≡ [] → LeavesLives s → Counts s
   takes s at l =
-      settles s 0 0 0 (occurs x (context_in e.moved).claims) (occurs x (context_in e.moved).claims) 0 0 0 0 0 (same _ _ (word-at [] at refl)) (calls-changed [] at)
+      settles s 0 0 0 (occurs x (context_in e.moved).claims) (occurs x (context_in e.moved).claims) 0 0 0 0 0 (same _ _ (word-else (takes-off f m e law x few at))) (calls-changed [] at)
       (let r = parked-taken f m e law x at in omega (arith, r)) (same _ _ l.0) (same _ _ l.1) (omega arith)
 
   frames : (q : Todo) (todo : Todos) → p.todo ≡ q ∷ todo → AreFramed f.image (q ∷ todo)
@@ -178,11 +167,11 @@ module _ (f : Fine) (m : State) (e : FineStep) (law : Lawful f m e) (x : ℕ) (f
           ap (λ (w : RowWord). w.claims) (row-here f m e law x few on act said)
           ∙ sym (eqb-true (row f x).claims 0 (and_parts (is_cleaning (row f x).stage) _ (row-takes-it f m e law x few on act said)).1)
 
-  beside : (s : State) (q : Todo) (todo : Todos) → p.todo ≡ q ∷ todo → is_still q ≡ true → is_scheduling q ≡ false → Same → LeavesLives s → Counts s
-  beside s q todo at quiet other w l = still s w (calls-still q todo at quiet) (parked-else f m e law x q todo at other) l
+  passed : (s : State) (q : Todo) (todo : Todos) → p.todo ≡ q ∷ todo → is_still q ≡ true → is_scheduling q ≡ false → Same → LeavesLives s → Counts s
+  passed s q todo at quiet other w l = still s w (calls-still q todo at quiet) (parked-else f m e law x q todo at other) l
 
   look-at : (q : Todo) (todo : Todos) → p.todo ≡ q ∷ todo → is_still q ≡ true → is_scheduling q ≡ false → e.act ≡ FineAct.Unseen Unseen.Visit → Counts m
-  look-at q todo at quiet other said = beside m q todo at quiet other (word-same (FineAct.Unseen Unseen.Visit) said refl) (refl, refl)
+  look-at q todo at quiet other said = passed m q todo at quiet other (word-same (FineAct.Unseen Unseen.Visit) said refl) (refl, refl)
 
   -- The word of a thread is read, which is doomed.
   reads : (q : Pending) (rest : Steps) (todo : Todos) → p.todo ≡ Todo.show q rest ∷ todo → is_shown e.act ≡ false → Counts m
@@ -205,7 +194,7 @@ module _ (f : Fine) (m : State) (e : FineStep) (law : Lawful f m e) (x : ℕ) (f
       left = ap (λ b. if b then counted (is_end_call x) todo else 0) read ∙ ap (counted (is_end_call x)) list
 
       none : come_to f.image x p e (Todo.show q rest ∷ todo) ≡ 0
-      none = ap (λ b. if b then 0 else come f.image x p.context q (act_in e.act)) read
+      none = ap (λ b. if b then 0 else come f.image x p.context (shown_step f.image q e.act) (act_in e.act)) read
 
       off : (q : Pending) → e.act ≡ says_show f.image p q e.act → same_site (site_at f.image p (Todo.show q rest ∷ todo)) (Site.row x) ≡ false
       off Pending.Begin is = refl
@@ -213,21 +202,43 @@ module _ (f : Fine) (m : State) (e : FineStep) (law : Lawful f m e) (x : ℕ) (f
       off q is = absurd (false≢true (sym quiet ∙ ap is_shown is))
 
   module _ (suits : Suits f m) where
-    -- One whose turn is done holds nothing.
-    done-holds : list_any is_done p.todo ≡ true → (b : Bool) → is_over p.context ≡ b → has_steps p.todo ≡ true → p.context.claims ≡ []
-    done-holds done true over running = (law.rel.contexts.running e.cpu law.by.named running).over over
-    done-holds done false on running =
+    -- One at rest, or whose turn is done, holds nothing.
+    rests-hold : runs p ≡ true → (b : Bool) → is_over p.context ≡ b → p.context.pending ≡ [] → p.context.claims ≡ []
+    rests-hold running true over rests = (law.rel.contexts.running e.cpu law.by.named running).over over
+    rests-hold running false on rests =
         let of = (law.rel.contexts.running e.cpu law.by.named running).of on in
-        let rests = (law.rel.contexts.done e.cpu law.by.named done).0 in
         flags-none p.context.claims of.below
-        (λ y. ap (λ (flags : List Bool). slice_index_or flags y false) (sym of.claims) ∙ suits.rests p.context.thread y (inr (sym (ap (λ (z : Thread). z.pending) of.own) ∙ rests)))
+        (λ y. ap (λ (flags : List Bool). slice_index_or flags y false) (sym of.claims)
+        ∙ suits.rests p.context.thread y (inr (sym (ap (λ (z : Thread). z.pending) (own-unless of (ap waits rests))) ∙ rests)))
 
     dones : (todo : Todos) → p.todo ≡ Todo.done ∷ todo → Counts m
     dones todo at =
+        let list : p.todo ≡ Todo.done ∷ [] = at ∙ ap (λ (z : Todos). Todo.done ∷ z) (frames Todo.done todo at).0 in
         let none : counted (is_end_call x) todo ≡ 0 = ap (counted (is_end_call x)) (frames Todo.done todo at).0 in
-        let holds : occurs x p.context.claims ≡ 0 = ap (occurs x) (done-holds (ap (list_any is_done) at) (is_over p.context) refl (ap has_steps at)) in
+        let rests = (law.rel.contexts.done e.cpu law.by.named (ap (list_any is_done) list) (ap (list_any is_sleep) list)).0 in
+        let holds : occurs x p.context.claims ≡ 0 = ap (occurs x) (rests-hold (runs-first law.rel law.by.named Todo.done todo at (λ hand. hand)) (is_over p.context) refl rests) in
         let sum = calls-changed (Todo.done ∷ todo) at in
         still m (word-at (Todo.done ∷ todo) at refl) (omega (arith, sum, none, holds)) (parked-done f m e law x todo at) (refl, refl)
+
+    sleeps : (todo : Todos) → p.todo ≡ Todo.sleep ∷ todo → Counts m
+    sleeps todo at =
+        let rests = (subst (Fits f.image p.context) at (law.rel.processors e.cpu law.by.named).list.fits).0 in
+        let holds : occurs x p.context.claims ≡ 0 = ap (occurs x) (rests-hold (runs-first law.rel law.by.named Todo.sleep todo at (λ hand. hand)) (is_over p.context) refl rests) in
+        let sum = calls-changed (Todo.sleep ∷ todo) at in
+        still m (word-at (Todo.sleep ∷ todo) at refl) (omega (arith, sum, holds)) (parked-else f m e law x Todo.sleep todo at refl) (refl, refl)
+
+    paid-off : (todo : Todos) → p.todo ≡ Todo.paid ∷ todo → Counts m
+    paid-off todo at =
+        let none : counted (is_end_call x) todo ≡ 0 = ap (counted (is_end_call x)) (frames Todo.paid todo at).0 in
+        let sum = calls-changed (Todo.paid ∷ todo) at in
+        still m (word-at (Todo.paid ∷ todo) at refl) (omega (arith, sum, none)) (parked-paid f m e law x todo at) (refl, refl)
+
+    looks-off : (who site before : ℕ) (todo : Todos) → p.todo ≡ Todo.look who site before ∷ todo → same_site (site_at f.image p (Todo.look who site before ∷ todo)) (Site.row x) ≡ false
+    looks-off who site before todo at = waiting-apart site (Site.row x) (is-placed f m e law (Todo.look who site before) todo at) (λ y. refl) refl refl
+
+    hand-off : (deadline : ℕ) (mark : Mark) (todo : Todos) → p.todo ≡ Todo.handle deadline mark ∷ todo → same_site (site_at f.image p (Todo.handle deadline mark ∷ todo)) (Site.row x) ≡ false
+    hand-off deadline (Mark.Thread who site) todo at = waiting-apart site (Site.row x) (is-placed f m e law (Todo.handle deadline (Mark.Thread who site)) todo at) (λ y. refl) refl refl
+    hand-off deadline (Mark.Timer y) todo at = refl
 
     quiet-part : (u : Unseen) → e.act ≡ FineAct.Unseen u → (todo : Todos) → p.todo ≡ todo → Counts m
     quiet-part u said [] at = takes m at (refl, refl)
@@ -235,16 +246,23 @@ module _ (f : Fine) (m : State) (e : FineStep) (law : Lawful f m e) (x : ℕ) (f
     quiet-part u said (Todo.end_call z ∷ todo) at = ends z todo at
     quiet-part u said (Todo.park ∷ todo) at = parks todo at
     quiet-part u said (Todo.done ∷ todo) at = dones todo at
+    quiet-part u said (Todo.sleep ∷ todo) at = sleeps todo at
+    quiet-part u said (Todo.paid ∷ todo) at = paid-off todo at
+    quiet-part u said (Todo.tell_cut who ∷ todo) at =
+        still m (word-at (Todo.tell_cut who ∷ todo) at refl) (calls-still (Todo.tell_cut who) todo at refl) (parked-cut f m e law x who todo at) (refl, refl)
+    quiet-part u said (Todo.owe ∷ todo) at = still m (word-at (Todo.owe ∷ todo) at refl) (calls-still Todo.owe todo at refl) (parked-owe f m e law x todo at) (refl, refl)
+    quiet-part u said (Todo.look who site before ∷ todo) at = passed m (Todo.look who site before) todo at refl refl (word-at (Todo.look who site before ∷ todo) at (looks-off who site before todo at)) (refl, refl)
+    quiet-part u said (Todo.handle deadline mark ∷ todo) at = passed m (Todo.handle deadline mark) todo at refl refl (word-at (Todo.handle deadline mark ∷ todo) at (hand-off deadline mark todo at)) (refl, refl)
     quiet-part u said (Todo.wake who told ∷ todo) at =
         still m (word-at (Todo.wake who told ∷ todo) at refl) (calls-still (Todo.wake who told) todo at refl) (parked-wake f m e law x who told todo at) (refl, refl)
     quiet-part u said (Todo.add d ∷ todo) at =
         still m (word-at (Todo.add d ∷ todo) at refl) (calls-still (Todo.add d) todo at refl) (parked-added f m e law x d todo at) (refl, refl)
-    quiet-part u said (Todo.vacate z ∷ todo) at = beside m (Todo.vacate z) todo at refl refl (vacates z todo at) (refl, refl)
-    quiet-part u said (Todo.recycle z ∷ todo) at = beside m (Todo.recycle z) todo at refl refl (word-at (Todo.recycle z ∷ todo) at refl) (refl, refl)
+    quiet-part u said (Todo.vacate z ∷ todo) at = passed m (Todo.vacate z) todo at refl refl (vacates z todo at) (refl, refl)
+    quiet-part u said (Todo.recycle z ∷ todo) at = passed m (Todo.recycle z) todo at refl refl (word-at (Todo.recycle z ∷ todo) at refl) (refl, refl)
     quiet-part u said (Todo.pass who z ∷ todo) at = look-at (Todo.pass who z) todo at refl refl (visit-is f m e law x few u _ said (made-says f m e law (Todo.pass who z ∷ todo) at))
     quiet-part u said (Todo.drop z ∷ todo) at = look-at (Todo.drop z) todo at refl refl (visit-is f m e law x few u _ said (made-says f m e law (Todo.drop z ∷ todo) at))
     quiet-part u said (Todo.clean_pair who z ∷ todo) at = look-at (Todo.clean_pair who z) todo at refl refl (visit-is f m e law x few u _ said (made-says f m e law (Todo.clean_pair who z ∷ todo) at))
-    quiet-part u said (q ∷ todo) at = beside m q todo at refl refl (word-at (q ∷ todo) at refl) (refl, refl)
+    quiet-part u said (q ∷ todo) at = passed m q todo at refl refl (word-at (q ∷ todo) at refl) (refl, refl)
 
     -- An event of an instruction.
 
@@ -254,13 +272,14 @@ module _ (f : Fine) (m : State) (e : FineStep) (law : Lawful f m e) (x : ℕ) (f
 
       calls-shown : {q : Pending} {rest : Steps} {todo : Todos} → Shows f m e.cpu e q rest todo → calls later ≡ calls f + come f.image x p.context q (act_in e.act)
       calls-shown {q} {rest} {todo} h =
-          let sum = calls-changed (Todo.show q rest ∷ todo) h.at in
-          let left : gone f.image x p e (Todo.show q rest ∷ todo) ≡ 0 = ap (λ b. if b then counted (is_end_call x) todo else 0) h.shown in
-          let more : come_to f.image x p e (Todo.show q rest ∷ todo) ≡ come f.image x p.context q (act_in e.act) = ap (λ b. if b then 0 else come f.image x p.context q (act_in e.act)) h.shown in
+          let sum = calls-changed (Todo.show h.listed rest ∷ todo) h.at in
+          let left : gone f.image x p e (Todo.show h.listed rest ∷ todo) ≡ 0 = ap (λ b. if b then counted (is_end_call x) todo else 0) h.shown in
+          let more : come_to f.image x p e (Todo.show h.listed rest ∷ todo) ≡ come f.image x p.context q (act_in e.act) =
+          ap (λ b. if b then 0 else come f.image x p.context (shown_step f.image h.listed e.act) (act_in e.act)) h.shown ∙ ap (λ r. come f.image x p.context r (act_in e.act)) h.made in
           omega (arith, sum, left, more)
 
       parked-shown : {q : Pending} {rest : Steps} {todo : Todos} → Shows f m e.cpu e q rest todo → parked_claims x (scheduler later) ≡ parked_claims x (scheduler f)
-      parked-shown {q} {rest} {todo} h = parked-else f m e law x (Todo.show q rest) todo h.at refl
+      parked-shown {q} {rest} {todo} h = parked-else f m e law x (Todo.show h.listed rest) todo h.at refl
 
       -- one that claims nothing
       plain : (q : Pending) (rest : Steps) (todo : Todos) (n : ℕ) → Shows f m e.cpu e q rest todo → IsStep f m e.cpu e n q → is_claiming q ≡ false → is_birth q ≡ false
@@ -323,7 +342,7 @@ module _ (f : Fine) (m : State) (e : FineStep) (law : Lawful f m e) (x : ℕ) (f
           → Counts (T.after m t n (Pending.Own who) rest)
       owns who rest todo n h is =
           let sum = calls-shown h in
-          let l = sums-own f.image x m t (own-part h).index law.sound.wide.threads n who rest (offered-stands m t n all (Pending.Own who) rest (shown-offers h)).0 in
+          let l = sums-own f.image x m t (own-part h).index law.sound.wide.threads n who rest (offered-stands m t n all (Pending.Own who) rest tt (shown-offers h)).0 in
           let begun = l.1 in
           settles (T.after m t n (Pending.Own who) rest) 0 (one_if (own_row f.image who.0 == x)) 0 0 0 0 0 0 0 (one_if (own_row f.image who.0 == x)) (by (own_row f.image who.0 == x) refl) (omega (arith, sum)) (same _ _ (parked-shown h))
           (same _ _ l.0) (omega (arith, begun)) (omega arith)
@@ -346,7 +365,7 @@ module _ (f : Fine) (m : State) (e : FineStep) (law : Lawful f m e) (x : ℕ) (f
           let dead : (thread_at m who.0).keeps_own ≡ false = sym (ap (λ (c : Call). c.keeps) (call_is m who.0)) ∙ free in
           let rests = (starts-known m law.sound t who script stack priority mode rest offers).1 in
           let childless : (thread_at m who.0).child ≡ None = (subst (Creates (thread_at m who.0).child) rests (all who.0)).0 in
-          let mine : (thread_at m t).child ≡ Some who = (offered-stands m t n all q rest offers).0 in
+          let mine : (thread_at m t).child ≡ Some who = (offered-stands m t n all q rest tt offers).0 in
           let below = starts-below m law.sound lawful t who script stack priority mode rest offers in
           let l = sums-start f.image x m t (own-part h).index law.sound.wide.threads n who script stack priority mode rest below
           (λ at. true≢false (sym (ap is_some mine) ∙ ap is_some (ap (λ u. (thread_at m u).child) (sym at) ∙ childless))) dead childless mine in
@@ -418,9 +437,16 @@ module _ (f : Fine) (m : State) (e : FineStep) (law : Lawful f m e) (x : ℕ) (f
       by-event (Pending.ClearInit a) rest todo n h shown is = clears a rest todo n h is
       by-event (Pending.Born a) rest todo n h shown is = bears a rest todo n h is
       by-event Pending.Exit rest todo n h shown is =
-          plain Pending.Exit rest todo n h is refl refl refl (sums-stay f.image x m t n Pending.Exit rest (offered-stands m t n all Pending.Exit rest (shown-offers h)).0)
+          plain Pending.Exit rest todo n h is refl refl refl (sums-stay f.image x m t n Pending.Exit rest (offered-stands m t n all Pending.Exit rest tt (shown-offers h)).0)
+      by-event Pending.Killed rest todo n h shown is =
+          plain Pending.Killed rest todo n h is refl refl refl (sums-stay f.image x m t n Pending.Killed rest (offered-stands m t n all Pending.Killed rest tt (shown-offers h)).0)
+      by-event (Pending.Cut who) rest todo n h shown is = absurd shown
+      by-event (Pending.TimeOut who) rest todo n h shown is = absurd shown
+      by-event Pending.Expire rest todo n h shown is = absurd shown
+      by-event Pending.Tick rest todo n h shown is = absurd shown
+      by-event Pending.Left rest todo n h shown is = absurd shown
       by-event (Pending.Fatal reason cause) rest todo n h shown is =
-          let q = Pending.Fatal reason cause in plain q rest todo n h is refl refl refl (sums-stay f.image x m t n q rest (offered-stands m t n all q rest (shown-offers h)).0)
+          let q = Pending.Fatal reason cause in plain q rest todo n h is refl refl refl (sums-stay f.image x m t n q rest (offered-stands m t n all q rest tt (shown-offers h)).0)
       by-event (Pending.Inherit who) rest todo n h shown is = absurd shown
       by-event (Pending.Drops from) rest todo n h shown is = absurd shown
       by-event (Pending.CleanPair who) rest todo n h shown is = absurd shown
@@ -430,18 +456,32 @@ module _ (f : Fine) (m : State) (e : FineStep) (law : Lawful f m e) (x : ℕ) (f
       dropped-same : (who : ℕ) → (dropped (row f x) who).claims ≡ (row f x).claims
       dropped-same who = dropped-claims (row f x) who (is_last (row f x) who && has (row f x) who)
 
+      on-beside : (u y : ℕ) (q : Pending) → Beside f m e u y q → Counts (T.after m u y q (thread_at m u).pending)
+      on-beside u y _ (cuts who site before _ todo at place inside said) =
+          let q = Pending.Cut (to_thread who) in passed (T.after m u y q (thread_at m u).pending) (Todo.look who site before) todo at refl refl (word-same _ said refl) (sums-stay f.image x m u y q (thread_at m u).pending tt)
+      on-beside u y _ (times_out deadline site _ who todo at place inside said) =
+          let q = Pending.TimeOut who in
+          passed (T.after m u y q (thread_at m u).pending) (Todo.handle deadline (Mark.Thread who site)) todo at refl refl (word-same _ said refl) (sums-stay f.image x m u y q (thread_at m u).pending tt)
+      on-beside u y _ (expires deadline z todo at inside said) =
+          let q = Pending.Expire in
+          passed (T.after m u y q (thread_at m u).pending) (Todo.handle deadline (Mark.Timer z)) todo at refl refl (word-same _ said refl) (sums-stay f.image x m u y q (thread_at m u).pending tt)
+      on-beside u y _ (ticks at said) = takes (T.after m u y Pending.Tick (thread_at m u).pending) at (sums-stay f.image x m u y Pending.Tick (thread_at m u).pending tt)
+      on-beside u y _ (leaves todo at said) =
+          passed (T.after m u y Pending.Left (thread_at m u).pending) Todo.leave todo at refl refl (word-same _ said refl) (sums-stay f.image x m u y Pending.Left (thread_at m u).pending tt)
+
       counts : (s : State) → Leaves f m e s → Counts s
       counts _ (nothing u said) = quiet-part u said p.todo refl
       counts _ (event q rest todo n h shown is) = by-event q rest todo n h shown is
       counts _ (resumes c told rest at moved said) = takes (T.after m c.thread 0 Pending.Resume rest) at (sums-stay f.image x m c.thread 0 Pending.Resume rest tt)
       counts _ (passes who y rest todo h said) =
-          let q = Pending.Inherit (to_thread who) in beside (T.after m t y q rest) (Todo.pass who y) todo h.at refl refl (word-same _ said refl) (sums-stay f.image x m t y q rest tt)
+          let q = Pending.Inherit (to_thread who) in passed (T.after m t y q rest) (Todo.pass who y) todo h.at refl refl (word-same _ said refl) (sums-stay f.image x m t y q rest tt)
       counts _ (drops from y rest todo h said) =
-          let q = Pending.Drops from in beside (T.after m t y q rest) (Todo.drop y) todo h.at refl refl (word-same _ said (dropped-same t)) (sums-stay f.image x m t y q rest tt)
+          let q = Pending.Drops from in passed (T.after m t y q rest) (Todo.drop y) todo h.at refl refl (word-same _ said (dropped-same t)) (sums-stay f.image x m t y q rest tt)
       counts _ (cleans who y rest todo h said) =
-          let q = Pending.CleanPair (to_thread who) in beside (T.after m t y q rest) (Todo.clean_pair who y) todo h.at refl refl (word-same _ said (dropped-same who)) (sums-stay f.image x m t y q rest tt)
+          let q = Pending.CleanPair (to_thread who) in passed (T.after m t y q rest) (Todo.clean_pair who y) todo h.at refl refl (word-same _ said (dropped-same who)) (sums-stay f.image x m t y q rest tt)
       counts _ (recycles y rest todo at l said chosen) =
-          beside (T.after m t y Pending.Recycle rest) (Todo.recycle y) todo at refl refl (word-at (Todo.recycle y ∷ todo) at refl) (sums-stay f.image x m t y Pending.Recycle rest tt)
+          passed (T.after m t y Pending.Recycle rest) (Todo.recycle y) todo at refl refl (word-at (Todo.recycle y ∷ todo) at refl) (sums-stay f.image x m t y Pending.Recycle rest tt)
+      counts _ (beside u y q how chosen started) = on-beside u y q how
 
       pub claims-part : (s : State) → Leaves f m e s → ClaimsAre later s x
-      claims-part s leaves = record { claimed = counts s leaves; dying = staged.dying; free = staged.free }
+      claims-part s how = record { claimed = counts s how; dying = (staged f m e law x few).dying; free = (staged f m e law x few).free }

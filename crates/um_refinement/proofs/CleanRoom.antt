@@ -1,6 +1,9 @@
 -- A processor that begins to clean an object has fewer to clean than there are dynamic rows: those that it has are others, each once, and dynamic.
-use Rattle.um_refinement.proofs.Words.{◌≡◌, ℕ, ◌+◌, ◌-◌, ◌<◌, ◌≤◌, Bool, true, false, [], ◌∷◌, Option, Some, None, refl, sym, ap, ◌∙◌, subst, arith, ◌==◌, ◌&&◌, if◌then◌else◌, nat_le, nat_lt, not, unwrap_or, list_all, and_parts, false≢true, leb-true, ltb-true, true≢false, Act, Leftover, ROWS, STATIC_ROWS, Addr, row_at, Image, Pending, ThreadIx, to_thread, State, object_at, FineAct, More, Unseen, RowWord, Stage, has, is_cleaning, is_dying, is_free, is_last, is_live, left_of, row_after, row_says, row_takes, address_of, row_named, act_in, is_visit, is_word_read, leftover_in, row_in, begins_cleaning, by_me, more_of, says, says_idle, says_show, says_step, shows, site_at, Todo, Todos, cleanings, Processor, SiteMay, SiteState, site_after, site_answers, site_takes, word_of, Exchange, FineStep, Site, Fine, one_if, row, counted, is_recycle, names_row, is_reserved, recyclers, status_of, Rel, and-false, call_ended, made_by}
+use Rattle.um_refinement.proofs.Words.{◌≡◌, ℕ, ◌+◌, ◌-◌, ◌<◌, ◌≤◌, Bool, true, false, [], ◌∷◌, Option, Some, None, refl, sym, ap, ◌∙◌, subst, arith, ◌==◌, ◌&&◌, if◌then◌else◌, nat_le, nat_lt, not, unwrap_or, list_all, and_parts, false≢true, leb-true, ltb-true, true≢false, Act, Leftover, ROWS, STATIC_ROWS, Addr, row_at, Image, Pending, ThreadIx, to_thread, State, object_at, FineAct, More, Unseen, RowWord, Stage, has, is_cleaning, is_dying, is_free, is_last, is_live, left_of, row_after, row_says, row_takes, address_of, row_named, act_in, is_visit, is_word_read, leftover_in, row_in, begins_cleaning, by_me, more_of, says, says_idle, says_show, says_step, site_at, Todo, Todos, cleanings, Processor, SiteMay, SiteState, site_after, site_answers, site_takes, word_of, Exchange, FineStep, Site, Fine, one_if, row, counted, is_recycle, names_row, is_reserved, recyclers, status_of, Rel, and-false, call_ended, made_by}
 use Rattle.um_machine.specs.Objects as Plain
+use Rattle.um_words.specs.declared.fine.Mark.{Mark}
+use Rattle.um_fine.specs.Answers.{is_due_act, is_killed, is_shut_act, is_tick, is_void}
+use Rattle.um_fine.specs.Asks.{begins, by_actor, marks_end, says_turn, site_by}
 use Rattle.um_refinement.proofs.CleanersPart.{is_drop, no-left}
 use Rattle.um_refinement.proofs.CleaningFacts.{begins-stage}
 use Rattle.um_refinement.proofs.FirstThreads.{one-most}
@@ -78,18 +81,18 @@ module _ (f : Fine) (m : State) (rel : Rel f m) (sound : IsSound m) where
       by Stage.Live e h = absurd (false≢true h)
       by Stage.Free e h = absurd (false≢true h)
 
-  module _ (k : ℕ) (l : k < f.cpus) (e : FineStep) (makes : made_by f.image (f.processors k) e ≡ e) (taken : SiteMay f.image (f.sites e.site) e) (begins : begins_cleaning e ≡ true) where
+  module _ (k : ℕ) (l : k < f.cpus) (e : FineStep) (makes : made_by f.image (f.processors k) e ≡ e) (taken : SiteMay f.image (f.sites e.site) e) (cleaning : begins_cleaning e ≡ true) where
     abbrev p : Processor
     p = f.processors k
 
     said : (todo : Todos) → p.todo ≡ todo → e.act ≡ says f.image p todo e.act e.moved
     said todo at = sym (ap (λ (s : FineStep). s.act) makes) ∙ ap (λ (z : Todos). says f.image p z e.act e.moved) at
 
-    site : (todo : Todos) → p.todo ≡ todo → e.site ≡ site_at f.image p todo
-    site todo at = sym (ap (λ (s : FineStep). s.site) makes) ∙ ap (site_at f.image p) at
+    site : (q : Todo) (todo : Todos) → p.todo ≡ q ∷ todo → e.site ≡ site_at f.image p (q ∷ todo)
+    site q todo at = sym (ap (λ (s : FineStep). s.site) makes) ∙ ap (λ (z : Todos). site_by f.image p z e.act) at
 
     quiet : (act : FineAct) → e.act ≡ act → begins_cleaning (record e { act = act }) ≡ false → ⊥
-    quiet act is none = true≢false (sym begins ∙ (ap (λ a. begins_cleaning (record e { act = a })) is ∙ none))
+    quiet act is none = true≢false (sym cleaning ∙ (ap (λ a. begins_cleaning (record e { act = a })) is ∙ none))
 
     -- where the step is made
     abbrev At : Type 0
@@ -105,35 +108,53 @@ module _ (f : Fine) (m : State) (rel : Rel f m) (sound : IsSound m) where
         by None q = omega arith
         by (Some x) q = found-below m sound a.0 x (ap (λ (i : Image). row_at i a.0) rel.image ∙ q)
 
-    read-quiet : (q : Pending) (b : Bool) → is_drop q ≡ false → begins_cleaning (record e { act = (if b then FineAct.Unseen Unseen.WordRead else shows f.image p q e.act) }) ≡ false
-    read-quiet q true h = refl
-    read-quiet q false h = quiet-act e (says_step f.image p q (act_in e.act)) (more_of f.image p q) (to_thread p.context.thread) (no-left f.image p q (act_in e.act) h)
+    -- whether it is one step or another, neither begins a cleaning
+    either-quiet : (b : Bool) (one other : FineAct) → begins_cleaning (record e { act = one }) ≡ false → begins_cleaning (record e { act = other }) ≡ false
+        → begins_cleaning (record e { act = if b then one else other }) ≡ false
+    either-quiet true one other h k = h
+    either-quiet false one other h k = k
+
+    rest-quiet : (q : Pending) → is_drop q ≡ false → begins_cleaning (record e { act = begins f.image p q e.act }) ≡ false
+    rest-quiet q h =
+        either-quiet (is_word_read e.act) _ _ refl
+        (either-quiet (is_killed e.act) _ _ refl (quiet-act e (says_step f.image p q (act_in e.act)) (more_of f.image p q) (to_thread p.context.thread) (no-left f.image p q (act_in e.act) h)))
 
     show-quiet : (q : Pending) → is_drop q ≡ false → begins_cleaning (record e { act = says_show f.image p q e.act }) ≡ false
-    show-quiet Pending.Begin h = read-quiet Pending.Begin (is_word_read e.act) refl
-    show-quiet Pending.Exit h = read-quiet Pending.Exit (is_word_read e.act) refl
+    show-quiet Pending.Begin h = rest-quiet Pending.Begin refl
+    show-quiet Pending.Exit h = rest-quiet Pending.Exit refl
     show-quiet q h = quiet-act e (says_step f.image p q (act_in e.act)) (more_of f.image p q) (to_thread p.context.thread) (no-left f.image p q (act_in e.act) h)
 
     pass-quiet : (who x : ℕ) (b : Bool) → begins_cleaning (record e { act = (if b then FineAct.Unseen Unseen.Visit else by_me f.image p (Act.Inherit (to_thread who) (address_of f.image x))) }) ≡ false
     pass-quiet who x true = refl
     pass-quiet who x false = refl
 
-    idle-quiet : (moved : Exchange) → begins_cleaning (record e { act = says_idle f.image p moved }) ≡ false
-    idle-quiet (Exchange.thread c None) = refl
-    idle-quiet (Exchange.thread c (Some told)) = refl
-    idle-quiet moved = refl
+    turn-quiet : (moved : Exchange) → begins_cleaning (record e { act = says_turn f.image p moved }) ≡ false
+    turn-quiet (Exchange.thread c None) = refl
+    turn-quiet (Exchange.thread c (Some told)) = refl
+    turn-quiet moved = refl
+
+    idle-quiet : begins_cleaning (record e { act = says_idle f.image p e.act e.moved }) ≡ false
+    idle-quiet = either-quiet (is_due_act e.act) _ _ refl (either-quiet (is_tick e.act) _ _ refl (turn-quiet e.moved))
+
+    mark-quiet : (mark : Mark) → begins_cleaning (record e { act = by_actor f.image p (marks_end f.image p mark e.act) }) ≡ false
+    mark-quiet (Mark.Thread who there) = refl
+    mark-quiet (Mark.Timer x) = refl
 
     at-row : (todo : Todos) → p.todo ≡ todo → At
-    at-row [] at = absurd (quiet _ (said [] at) (idle-quiet e.moved))
+    at-row [] at = absurd (quiet _ (said [] at) idle-quiet)
     at-row (Todo.show q rest ∷ todo) at = by q at
       where
         by : (q : Pending) → p.todo ≡ Todo.show q rest ∷ todo → At
-        by (Pending.DropPair who a) at = (row_named f.image a, named-below a, site _ at)
+        by (Pending.DropPair who a) at = (row_named f.image a, named-below a, site _ _ at)
         by q at = absurd (quiet _ (said _ at) (show-quiet q refl))
-    at-row (Todo.end_call x ∷ todo) at = named-at x (Todo.end_call x) todo at refl (site _ at)
-    at-row (Todo.drop x ∷ todo) at = named-at x (Todo.drop x) todo at refl (site _ at)
-    at-row (Todo.clean_pair who x ∷ todo) at = named-at x (Todo.clean_pair who x) todo at refl (site _ at)
+    at-row (Todo.end_call x ∷ todo) at = named-at x (Todo.end_call x) todo at refl (site _ _ at)
+    at-row (Todo.drop x ∷ todo) at = named-at x (Todo.drop x) todo at refl (site _ _ at)
+    at-row (Todo.clean_pair who x ∷ todo) at = named-at x (Todo.clean_pair who x) todo at refl (site _ _ at)
     at-row (Todo.pass who x ∷ todo) at = absurd (quiet _ (said (Todo.pass who x ∷ todo) at) (pass-quiet who x (is_visit e.act)))
+    at-row (Todo.look who site before ∷ todo) at = absurd (quiet _ (said (Todo.look who site before ∷ todo) at) (either-quiet (is_void e.act) _ _ refl refl))
+    at-row (Todo.rouse who ∷ todo) at = absurd (quiet _ (said (Todo.rouse who ∷ todo) at) (either-quiet (is_void e.act) _ _ refl refl))
+    at-row (Todo.leave ∷ todo) at = absurd (quiet _ (said (Todo.leave ∷ todo) at) (either-quiet (is_shut_act e.act) _ _ refl refl))
+    at-row (Todo.handle deadline mark ∷ todo) at = absurd (quiet _ (said (Todo.handle deadline mark ∷ todo) at) (either-quiet (is_void e.act) _ _ refl (mark-quiet mark)))
     at-row (q ∷ todo) at = absurd (quiet _ (said (q ∷ todo) at) refl)
 
     module _ (x : ℕ) (few : x < ROWS) (there : e.site ≡ Site.row x) where
@@ -156,7 +177,7 @@ module _ (f : Fine) (m : State) (rel : Rel f m) (sound : IsSound m) where
       by-act : (act : FineAct) → e.act ≡ act → Begins x
       by-act (FineAct.Unseen Unseen.EndCall) is =
           ends-begins x few (ltb-true 0 (row f x).claims (ap (row_takes (row f x)) (sym is) ∙ takes))
-          (ap (λ a. is_cleaning (row_after (row f x) a).stage) (sym is) ∙ (ap (λ (w : RowWord). is_cleaning w.stage) (sym word) ∙ begins-stage e e.act begins))
+          (ap (λ a. is_cleaning (row_after (row f x) a).stage) (sym is) ∙ (ap (λ (w : RowWord). is_cleaning w.stage) (sym word) ∙ begins-stage e e.act cleaning))
       by-act (FineAct.Unseen u) is = absurd (quiet (FineAct.Unseen u) is refl)
       by-act (FineAct.Shown event more) is = shown event.act refl
         where

@@ -1,8 +1,11 @@
 -- A processor's cleaning of an object is that of the machine, where the relation holds: nobody claims the object, so nobody holds it.
-use Rattle.um_refinement.proofs.Words.{◌≡◌, ◌≢◌, ◌⊎◌, inl, inr, ℕ, zero, suc, ◌+◌, ◌<◌, ◌≤◌, Bool, true, false, List, [], ◌∷◌, ◌++◌, length, Option, Some, None, refl, sym, ap, ◌∙◌, subst, arith, eq-eqb, ◌==◌, ◌&&◌, ◌||◌, not, if◌then◌else◌, is_some, slice_index_or, list_all, and_from, and_parts, eqb-true, false≢true, not-true, not_from_false, true≢false, Act, Image, ROWS, THREADS, ThreadIx, own_row, thread_of_row, Pending, Life, Thread, to_thread, MayChoose, State, nobody, object_at, pair_at, thread_at, Stage, has, is_dying, is_free, is_last, address_of, act_in, leftover_in, row_in, Context, parked_at, FineStep, Todo, Todos, emptying, CpuMay, by_me, fits, is_dropped, says, Fine, one_if, row, scheduler, Adds, adders, cleaned_pairs, counted, has_steps, is_recycle, of_thread, runs, runs_thread, call_claims, context_claims, AreBlocks, Cleans, is_over, is_reserved, status_of, IsOf, flags_of, occurs, places, runs_on, Rel, MayClean, NoPairsOf, tends}
+use Rattle.um_refinement.proofs.Words.{waits, ◌≡◌, ◌≢◌, ◌⊎◌, inl, inr, ℕ, zero, suc, ◌+◌, ◌<◌, ◌≤◌, Bool, true, false, List, [], ◌∷◌, ◌++◌, length, Option, Some, None, refl, sym, ap, ◌∙◌, subst, arith, eq-eqb, ◌==◌, ◌&&◌, ◌||◌, not, if◌then◌else◌, is_some, slice_index_or, list_all, and_from, and_parts, eqb-true, false≢true, not-true, not_from_false, true≢false, Act, Image, ROWS, THREADS, ThreadIx, own_row, thread_of_row, Pending, Life, Thread, to_thread, MayChoose, State, nobody, object_at, pair_at, thread_at, Stage, has, is_dying, is_free, is_last, address_of, act_in, leftover_in, row_in, Context, parked_at, FineStep, Todo, Todos, emptying, CpuMay, by_me, fits, is_dropped, says, Fine, one_if, row, scheduler, Adds, adders, cleaned_pairs, counted, is_recycle, of_thread, runs, runs_thread, call_claims, context_claims, AreBlocks, Cleans, is_over, is_reserved, status_of, IsOf, flags_of, occurs, places, runs_on, Rel, MayClean, NoPairsOf, tends}
 use Rattle.um_machine.specs.Objects as Plain
 use Rattle.um_machine.specs.Table as T
+use Rattle.um_fine.specs.Joins.{asleep_at}
 use Rattle.um_refinement.specs.Claims.{claims}
+use Rattle.um_refinement.specs.Fine.{joins}
+use Rattle.um_refinement.proofs.Offered.{own-unless, runs-first}
 use Rattle.um_refinement.proofs.Erased.{Goes, GoesBy}
 use Rattle.um_refinement.proofs.DropSteps.{Held, dropped-has, left-here, left-there}
 use Rattle.um_refinement.proofs.FirstThreads.{one-most}
@@ -56,7 +59,7 @@ module _ (f : Fine) (m : State) (rel : Rel f m) (calls : Calls m) where
     no-claims : claims f m x ≡ 0
     no-claims = sym (rel.rows x few).claims.claimed ∙ none
 
-    unflagged : (u : ℕ) (c : Context) → IsOf m c → c.thread ≡ u → occurs x c.claims ≡ 0 → slice_index_or (thread_at m u).checked x false ≡ false
+    unflagged : (u : ℕ) (c : Context) → IsOf f m c → c.thread ≡ u → occurs x c.claims ≡ 0 → slice_index_or (thread_at m u).checked x false ≡ false
     unflagged u c of at free = by (slice_index_or (thread_at m u).checked x false) refl
       where
         by : (b : Bool) → slice_index_or (thread_at m u).checked x false ≡ b → b ≡ false
@@ -86,7 +89,14 @@ module _ (f : Fine) (m : State) (rel : Rel f m) (calls : Calls m) where
         let c = adds-one u (f.processors k).todo some in
         let is = rel.contexts.added k c.0 l c.1 in
         let rest : (thread_at m u).pending ≡ [] =
-        ap (λ n. (thread_at m n).pending) (sym c.2) ∙ (sym (ap (λ (z : Thread). z.pending) is.0.own) ∙ is.2) in
+        ap (λ n. (thread_at m n).pending) (sym c.2) ∙ (sym (ap (λ (z : Thread). z.pending) (own-unless is.0 (ap waits is.2))) ∙ is.2) in
+        calls.rests u x (inr rest)
+
+    asleep-free : (u : ℕ) (c : Context) → asleep_at (joins f) u ≡ Some c → slice_index_or (thread_at m u).checked x false ≡ false
+    asleep-free u c at =
+        let is = rel.contexts.asleep u c at in
+        let rest : (thread_at m u).pending ≡ [] =
+        ap (λ n. (thread_at m n).pending) (sym is.1) ∙ (sym (ap (λ (z : Thread). z.pending) (own-unless is.0 (ap waits is.3))) ∙ is.3) in
         calls.rests u x (inr rest)
 
     -- wherever its own part lies, a thread's call doesn't hold the object
@@ -103,12 +113,17 @@ module _ (f : Fine) (m : State) (rel : Rel f m) (calls : Calls m) where
                 let parts = and_parts _ _ all.0 in running-free u k there parts.0 (not-true _ all.1) (eqb-true (f.processors k).context.thread u parts.1)
             choose false e = let lacks : one_if (runs_on u (f.processors k)) ≡ 0 = ap one_if e in added-free u k there (omega (arith, some, lacks))
 
+        by-asleep : (b : Bool) → is_some (asleep_at (joins f) u) ≡ b → is_some (parked_at (scheduler f) u) ≡ false → 0 < places f u → slice_index_or (thread_at m u).checked x false ≡ false
+        by-asleep true e none some = let c = some-is (asleep_at (joins f) u) e in asleep-free u c.0 c.1
+        by-asleep false e none some =
+            let parked : one_if (is_some (parked_at (scheduler f) u)) ≡ 0 = ap one_if none in
+            let sleeps : one_if (is_some (asleep_at (joins f) u)) ≡ 0 = ap one_if e in
+            let k = some-part (λ j. one_if (runs_on u (f.processors j)) + of_thread u (adders (f.processors j).todo)) f.cpus (omega (arith, some, parked, sleeps)) in
+            with-processor k.0 k.1 k.2
+
         by-parked : (b : Bool) → is_some (parked_at (scheduler f) u) ≡ b → 0 < places f u → slice_index_or (thread_at m u).checked x false ≡ false
         by-parked true e some = let c = some-is (parked_at (scheduler f) u) e in parked-free u l c.0 c.1
-        by-parked false e some =
-            let lacks : one_if (is_some (parked_at (scheduler f) u)) ≡ 0 = ap one_if e in
-            let k = some-part (λ j. one_if (runs_on u (f.processors j)) + of_thread u (adders (f.processors j).todo)) f.cpus (omega (arith, some, lacks)) in
-            with-processor k.0 k.1 k.2
+        by-parked false e some = by-asleep (is_some (asleep_at (joins f) u)) refl e some
 
         by : (n : ℕ) → places f u ≡ n → slice_index_or (thread_at m u).checked x false ≡ false
         by zero e = calls.rests u x (inr ((rel.threads u l).away.away e).1)
@@ -224,7 +239,7 @@ module _ {f : Fine} {m : State} {k : ℕ} {e : FineStep} {y who : ℕ} {todo : T
         step = Pending.CleanPair (to_thread who);
         rest = (thread_at m t).pending;
         row = y;
-        offered = tends refl (visit-part h).started;
+        offered = tends refl (visit-part h (λ hand. hand)).started;
         chosen = (subst (MayClean m t) (ap (λ (i : Image). own_row i who) (sym h.rel.image)) may, sym (pair-is f m h.rel y who h.few) ∙ there);
         says = λ i. Act.DropPair (to_thread who) (address_of (sym h.rel.image i) y) ((sym left ∙ left-here f m h.rel y who h.few held) i);
         leaves = refl;
@@ -284,7 +299,7 @@ module _ (f : Fine) (m : State) (rel : Rel f m) (calls : Calls m) (own : OwnRows
         step = Pending.Recycle;
         rest = (thread_at m t).pending;
         row = x;
-        offered = tends refl (rel.contexts.running k there (ap has_steps at)).started;
+        offered = tends refl (rel.contexts.running k there (runs-first rel there (Todo.recycle x) todo at (λ hand. hand))).started;
         chosen = recycle-chosen x todo there few at;
         says = ap (λ (i : Image). Act.Recycle (address_of i x)) (sym rel.image);
         leaves = refl;

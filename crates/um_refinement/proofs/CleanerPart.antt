@@ -1,6 +1,8 @@
 -- The thread by which the machine has begun to clean an object is run by the processor that cleans it, after every lawful step; and the
 -- machine has begun to clean none that no processor cleans.
 use Rattle.um_refinement.proofs.Words.{◌≡◌, ◌⊎◌, inl, inr, ℕ, zero, suc, ◌+◌, ◌<◌, ◌≤◌, Bool, true, false, cond, List, [], ◌∷◌, Option, Some, None, refl, sym, ap, ◌∙◌, subst, arith, eq-eqb, ◌==◌, ◌&&◌, not, is_some, slice_index_or, slice_set, unwrap_or, eqb-false, eqb-true, false≢true, get_or-set_other, get_or-set_same, ROWS, ThreadIx, own_row, Object, Status, Pending, Steps, to_thread, State, object_at, thread_at, vacant, FineAct, Unseen, is_dying, p_next, Todo, Todos, Processor, FineStep, AreBlocks, Cleans, Fine, one_if, row, Behind, counted, is_recycle, recyclers, CleanerIs}
+use Rattle.um_words.specs.declared.fine.Mark.{Mark}
+use Rattle.um_machine.specs.State.{thread_at}
 use Rattle.um_machine.specs.declared.contents.Contents.TheVariants as Contents
 use Rattle.um_machine.specs.Objects as Plain
 use Rattle.um_machine.specs.Table as T
@@ -8,11 +10,11 @@ use Rattle.um_refinement.proofs.CellSteps.{idle-count, takes-quiet}
 use Rattle.um_refinement.proofs.CleanersPart.{cleaners-part}
 use Rattle.um_refinement.proofs.CleanersSteps.{rec-sum}
 use Rattle.um_refinement.proofs.CleanSteps.{OwnRows}
-use Rattle.um_refinement.proofs.ContentsKept.{IsBeside, beside-kept, drops-kept, work-objects}
+use Rattle.um_refinement.proofs.ContentsKept.{queues-kept, IsBeside, beside-kept, drops-kept, work-objects}
 use Rattle.um_refinement.proofs.DomainFacts.{two-parts}
 use Rattle.um_refinement.proofs.Erased.{around, later}
 use Rattle.um_refinement.proofs.FirstThreads.{one-most}
-use Rattle.um_refinement.proofs.Leaves.{Lawful, Leaves, cleans, drops, event, nothing, passes, recycles, resumes}
+use Rattle.um_refinement.proofs.Leaves.{Beside, Lawful, Leaves, beside, cuts, expires, leaves, ticks, times_out, cleans, drops, event, nothing, passes, recycles, resumes}
 use Rattle.um_refinement.proofs.ListCounts.{count-cons, recycles-of, takes-counts}
 use Rattle.um_refinement.proofs.ListGrips.{next-thread}
 use Rattle.um_refinement.proofs.ListGrowth.{ReadsLast, is_end}
@@ -69,7 +71,17 @@ module _ (f : Fine) (m : State) (e : FineStep) (law : Lawful f m e) (x : ℕ) (f
       (ap (λ (os : List Object). slice_index_or os x vacant) (reserved-objects m t n kind rest))
   by-event (Pending.CleanPair who) rest t n shown = absurd shown
   by-event Pending.Recycle rest t n shown = absurd shown
+  by-event (Pending.TimeOut who) rest t n shown = absurd shown
+  by-event Pending.Expire rest t n shown = absurd shown
+  by-event (Pending.Cut who) rest t n shown = absurd shown
   by-event q rest t n shown = stays (beside-kept cleaner_of cleaner-beside m x t n q rest refl)
+
+  on-beside : (t y : ℕ) (q : Pending) → Beside f m e t y q → (object_at (T.after m t y q (thread_at m t).pending) x).cleaner ≡ (object_at m x).cleaner
+  on-beside t y _ (cuts who site before _ todo at place inside said) = queues-kept cleaner_of cleaner-beside (λ o contents waiters. refl) m x t y (Pending.Cut (to_thread who)) (thread_at m t).pending refl
+  on-beside t y _ (times_out deadline site _ who todo at place inside said) = queues-kept cleaner_of cleaner-beside (λ o contents waiters. refl) m x t y (Pending.TimeOut who) (thread_at m t).pending refl
+  on-beside t y _ (expires deadline z todo at inside said) = queues-kept cleaner_of cleaner-beside (λ o contents waiters. refl) m x t y Pending.Expire (thread_at m t).pending refl
+  on-beside t y _ (ticks at said) = queues-kept cleaner_of cleaner-beside (λ o contents waiters. refl) m x t y Pending.Tick (thread_at m t).pending refl
+  on-beside t y _ (leaves todo at said) = queues-kept cleaner_of cleaner-beside (λ o contents waiters. refl) m x t y Pending.Left (thread_at m t).pending refl
 
   cleaner-then : (s : State) → Leaves f m e s → Cleaner s
   cleaner-then _ (nothing u said) = stays refl
@@ -98,6 +110,7 @@ module _ (f : Fine) (m : State) (e : FineStep) (law : Lawful f m e) (x : ℕ) (f
           let long = law.sound.wide.objects in
           begins who y todo h.at (eqb-true z x k)
           (dropped ∙ (ap (λ r. cleaner_of (slice_index_or (slice_set m.objects r o) x vacant)) (eqb-true z x k) ∙ ap cleaner_of (get_or-set_same m.objects x o vacant (omega (arith, few, long)))))
+  cleaner-then _ (beside t y q how chosen started) = stays (on-beside t y q how)
 
   -- How many recycle the object.
 
@@ -117,9 +130,16 @@ module _ (f : Fine) (m : State) (e : FineStep) (law : Lawful f m e) (x : ℕ) (f
   unseen-more u said (q ∷ todo) at = more q todo at tt refl
 
   -- no fewer, unless it is recycled, and then the machine has no cleaner of it
+  more-beside : (t y : ℕ) (q : Pending) → Beside f m e t y q → recyclers f x ≤ recyclers (later f e) x
+  more-beside t y _ (cuts who site before _ todo at place inside said) = more (Todo.look who site before) todo at tt refl
+  more-beside t y _ (times_out deadline site _ who todo at place inside said) = more (Todo.handle deadline (Mark.Thread who site)) todo at tt refl
+  more-beside t y _ (expires deadline z todo at inside said) = more (Todo.handle deadline (Mark.Timer z)) todo at tt refl
+  more-beside t y _ (ticks at said) = as-many at
+  more-beside t y _ (leaves todo at said) = more Todo.leave todo at tt refl
+
   more-then : (s : State) → Leaves f m e s → (recyclers f x ≤ recyclers (later f e) x) ⊎ ((object_at s x).cleaner ≡ None)
   more-then _ (nothing u said) = inl (unseen-more u said p.todo refl)
-  more-then _ (event q rest todo n h shown is) = inl (more (Todo.show q rest) todo h.at (last-shown q rest todo h.at) refl)
+  more-then _ (event q rest todo n h shown is) = inl (more (Todo.show h.listed rest) todo h.at (last-shown h.listed rest todo h.at) refl)
   more-then _ (resumes c told rest at moved said) = inl (as-many at)
   more-then _ (passes who y rest todo h said) = inl (more (Todo.pass who y) todo h.at tt refl)
   more-then _ (drops from y rest todo h said) = inl (more (Todo.drop y) todo h.at tt refl)
@@ -131,6 +151,7 @@ module _ (f : Fine) (m : State) (e : FineStep) (law : Lawful f m e) (x : ℕ) (f
       by true k =
           let long = law.sound.wide.objects in
           inr (ap cleaner_of (ap (λ r. slice_index_or (slice_set m.objects r vacant) x vacant) (sym (eqb-true x y k)) ∙ get_or-set_same m.objects x vacant vacant (omega (arith, few, long))))
+  more-then _ (beside t y q how chosen started) = inl (more-beside t y q how)
 
   -- a visit of a permission of the object's thread is made by the processor that recycles it
   cleans-here : OwnRows f.image → (who y : ℕ) (todo : Todos) → p.todo ≡ Todo.clean_pair who y ∷ todo → own_row m.image who ≡ x → 0 < Recs p.todo
@@ -155,7 +176,7 @@ module _ (f : Fine) (m : State) (e : FineStep) (law : Lawful f m e) (x : ℕ) (f
   none-some h = absurd (false≢true (ap is_some h))
 
   pub cleaner-part : OwnRows f.image → (s : State) → Leaves f m e s → CleanerIs (later f e) s x
-  cleaner-part own s leaves = record { none = λ h. by h (cleaner-then s leaves) (more-then s leaves) }
+  cleaner-part own s how = record { none = λ h. by h (cleaner-then s how) (more-then s how) }
     where
       by : recyclers (later f e) x ≡ 0 → Cleaner s → (recyclers f x ≤ recyclers (later f e) x) ⊎ ((object_at s x).cleaner ≡ None) → (object_at s x).cleaner ≡ None
       by h c (inr none) = none
@@ -177,6 +198,7 @@ module _ (f : Fine) (m : State) (e : FineStep) (law : Lawful f m e) (x : ℕ) (f
           last : (q : Todo) → is_end q ≡ true → p.todo ≡ q ∷ todo → Behind f.image q todo → ⊥
           last Todo.park h at b = let none : Recs p.todo ≡ 0 = ap Recs (at ∙ ap (λ (z : Todos). Todo.park ∷ z) b) in omega (arith, some, none)
           last Todo.done h at b = let none : Recs p.todo ≡ 0 = ap Recs (at ∙ ap (λ (z : Todos). Todo.done ∷ z) b) in omega (arith, some, none)
+          last Todo.paid h at b = let none : Recs p.todo ≡ 0 = ap Recs (at ∙ ap (λ (z : Todos). Todo.paid ∷ z) b) in omega (arith, some, none)
           last q h at b = false≢true h
 
       by : (todo : Todos) → p.todo ≡ todo → now.context.thread ≡ p.context.thread
@@ -184,11 +206,11 @@ module _ (f : Fine) (m : State) (e : FineStep) (law : Lawful f m e) (x : ℕ) (f
       by (q ∷ todo) at = ends q todo at (is_end q) refl
 
   begun-mine : OwnRows f.image → (s : State) → Leaves f m e s → (t : ThreadIx) → (object_at s x).cleaner ≡ Some t → 0 < Recs now.todo → now.context.thread ≡ t.0
-  begun-mine own s leaves t is some = by (cleaner-then s leaves)
+  begun-mine own s how t is some = by (cleaner-then s how)
     where
       later-most : recyclers (later f e) x ≤ 1
       later-most =
-          let c = (cleaners-part f m e law x few s leaves).cleaner in
+          let c = (cleaners-part f m e law x few s how).cleaner in
           let o = one-most (Plain.is_gone (object_at s x).status && not (is_dying (row (later f e) x).stage)) in
           omega (arith, c, o)
 
@@ -208,7 +230,7 @@ module _ (f : Fine) (m : State) (e : FineStep) (law : Lawful f m e) (x : ℕ) (f
 
   begun-other : OwnRows f.image → (s : State) → Leaves f m e s → (k : ℕ) → k < f.cpus → (e.cpu ≡ k → ⊥) → (t : ThreadIx) → (object_at s x).cleaner ≡ Some t → 0 < Recs (f.processors k).todo
       → (f.processors k).context.thread ≡ t.0
-  begun-other own s leaves k l ne t is some = by (cleaner-then s leaves)
+  begun-other own s how k l ne t is some = by (cleaner-then s how)
     where
       by : Cleaner s → (f.processors k).context.thread ≡ t.0
       by (goes none) = none-some (sym none ∙ is)
@@ -221,7 +243,7 @@ module _ (f : Fine) (m : State) (e : FineStep) (law : Lawful f m e) (x : ℕ) (f
 
   pub begun-part : OwnRows f.image → (s : State) → Leaves f m e s → (k : ℕ) → k < f.cpus → (t : ThreadIx) → (object_at s x).cleaner ≡ Some t → Cleans (later f e) k x
       → ((later f e).processors k).context.thread ≡ t.0
-  begun-part own s leaves k l t is = by (e.cpu == k) refl
+  begun-part own s how k l t is = by (e.cpu == k) refl
     where
       kth : Bool → Processor
       kth b = cond b (p_next f.image (f.processors k) e) (f.processors k)
@@ -230,5 +252,5 @@ module _ (f : Fine) (m : State) (e : FineStep) (law : Lawful f m e) (x : ℕ) (f
       Begun z = 0 < Recs z.todo → z.context.thread ≡ t.0
 
       by : (b : Bool) → (e.cpu == k) ≡ b → Begun (kth (e.cpu == k))
-      by true q = subst Begun (sym (ap kth q ∙ ap (λ (z : Processor). p_next f.image z e) (sym (ap f.processors (eqb-true e.cpu k q))))) (begun-mine own s leaves t is)
-      by false q = subst Begun (sym (ap kth q)) (begun-other own s leaves k l (eqb-false e.cpu k q) t is)
+      by true q = subst Begun (sym (ap kth q ∙ ap (λ (z : Processor). p_next f.image z e) (sym (ap f.processors (eqb-true e.cpu k q))))) (begun-mine own s how t is)
+      by false q = subst Begun (sym (ap kth q)) (begun-other own s how k l (eqb-false e.cpu k q) t is)

@@ -1,10 +1,15 @@
 -- An object that is gone and that nobody holds has exactly one processor that cleans it, after every lawful step.
-use Rattle.um_refinement.proofs.Words.{◌≡◌, inl, inr, ℕ, zero, suc, ◌+◌, ◌<◌, ◌≤◌, Bool, true, false, [], ◌∷◌, Option, Some, None, refl, sym, ap, ◌∙◌, subst, arith, eq-eqb, List, ◌==◌, ◌&&◌, not, is_some, if◌then◌else◌, nat_lt, slice_index_or, slice_set, unwrap_or, and_parts, eqb-false, eqb-true, false≢true, true≢false, get_or-set_other, get_or-set_same, length-set, Act, Leftover, Image, ROWS, Errno, Kind, Mode, Want, Addr, ThreadIx, own_row, row_at, Object, Status, Pending, Refusal, Steps, to_thread, MayChoose, is_user, State, object_at, vacant, FineAct, More, Unseen, RowWord, Stage, after_verdict, verdict_of, has, is_cleaning, is_dying, is_free, is_live, row_after_act, address_of, row_named, verdict_in, act_in, is_visit, leftover_in, row_in, begins_cleaning, by_me, says_idle, says_show, shows, site_at, Todo, Todos, Processor, same_site, Exchange, FineStep, Site, same-sound, AreBlocks, CleanersAre, Fine, one_if, row, counted, is_recycle, is_vacate, recyclers, vacaters, allows, says_step, fits_kind, length}
+use Rattle.um_refinement.proofs.Words.{row_after, ◌≡◌, inl, inr, ℕ, zero, suc, ◌+◌, ◌<◌, ◌≤◌, Bool, true, false, [], ◌∷◌, Option, Some, None, refl, sym, ap, ◌∙◌, subst, arith, eq-eqb, List, ◌==◌, ◌&&◌, not, is_some, if◌then◌else◌, nat_lt, slice_index_or, slice_set, unwrap_or, and_parts, eqb-false, eqb-true, false≢true, true≢false, get_or-set_other, get_or-set_same, length-set, Act, Leftover, Image, ROWS, Errno, Kind, Mode, Want, Addr, ThreadIx, own_row, row_at, Object, Status, Pending, Refusal, Steps, to_thread, MayChoose, is_user, State, object_at, vacant, FineAct, More, Unseen, RowWord, Stage, after_verdict, verdict_of, has, is_cleaning, is_dying, is_free, is_live, row_after_act, address_of, row_named, verdict_in, act_in, is_visit, leftover_in, row_in, begins_cleaning, by_me, says_show, shows, site_at, Todo, Todos, Processor, same_site, FineStep, Site, same-sound, AreBlocks, CleanersAre, Fine, one_if, row, counted, is_recycle, is_vacate, recyclers, vacaters, allows, says_step, fits_kind, length}
 use Rattle.um_machine.specs.Objects as Plain
 use Rattle.um_machine.specs.Table as T
+use Rattle.um_machine.specs.State.{thread_at}
+use Rattle.um_words.specs.declared.fine.Mark.{Mark}
+use Rattle.um_refinement.proofs.CellSteps.{takes-off, takes-quiet}
+use Rattle.um_refinement.proofs.WaitingSites.{waiting-apart}
+use Rattle.um_refinement.proofs.DomainReads.{IsPlaced}
 use Rattle.um_refinement.proofs.ListGrowth.{ReadsLast}
 use Rattle.um_refinement.proofs.Erased.{around}
-use Rattle.um_refinement.proofs.Leaves.{Lawful, Leaves, cleans, drops, event, nothing, passes, recycles, resumes}
+use Rattle.um_refinement.proofs.Leaves.{Beside, Lawful, Leaves, beside, cuts, expires, leaves, ticks, times_out, cleans, drops, event, nothing, passes, recycles, resumes}
 use Rattle.um_refinement.proofs.ListCounts.{cleans-none}
 use Rattle.um_refinement.proofs.SchedulerSteps.{made-at, made-says}
 use Rattle.um_refinement.proofs.DomainFacts.{two-parts, is_unseen}
@@ -12,14 +17,14 @@ use Rattle.um_refinement.proofs.FirstThreads.{one-most}
 use Rattle.um_refinement.proofs.HeldRows.{total-zero}
 use Rattle.um_refinement.proofs.MemorySteps.{part-total}
 use Rattle.um_refinement.proofs.CleaningFacts.{drop-status, is_birth, takes_last}
-use Rattle.um_refinement.proofs.CleanersSteps.{beside, drop-case, elsewhere, end-call, idle, leaves-word, no-gain, rec-same, rec-sum, recycled, row-else, row-here, row-takes-it, vac-same, vacate-row}
+use Rattle.um_refinement.proofs.CleanersSteps.{passed-by, drop-case, elsewhere, end-call, idle, leaves-word, no-gain, rec-same, rec-sum, recycled, row-else, row-here, row-takes-it, vac-same, vacate-row}
 use Rattle.um_refinement.proofs.ObjectsKept.{NoStatuses, born-reserved, set-kept, status-kept}
 use Rattle.um_refinement.proofs.Offered.{IsStep, Shows, shown-offers, site-is, either-act}
 use Rattle.um_refinement.proofs.PairsKept.{row-untouched}
 use Rattle.um_refinement.proofs.RowClaims.{row-claims, won}
 use Rattle.um_refinement.proofs.RowSteps.{named-row, row-says}
 use Rattle.um_refinement.proofs.StatusKept.{Marks, given-marks}
-use Rattle.um_refinement.proofs.StepReads.{is-behind}
+use Rattle.um_refinement.proofs.StepReads.{is-behind, is-placed}
 use Rattle.um_refinement.proofs.VisitSteps.{visit-site}
 use Rattle.um_refinement.proofs.WordsKept.{IsShown}
 use Rattle.um_refinement.proofs.Writes.{Makes, with_dropped, with_cleaner, reserved-objects}
@@ -88,7 +93,7 @@ module _ (f : Fine) (m : State) (e : FineStep) (law : Lawful f m e) (x : ℕ) (f
   look-at : (q : Todo) (todo : Todos) → p.todo ≡ q ∷ todo → ReadsLast e q todo → is_vacate x q ≡ false → is_recycle x q ≡ false → e.act ≡ FineAct.Unseen Unseen.Visit → Result m
   look-at q todo at last vac rec said =
       let word = leaves-word f m e law x few (FineAct.Unseen Unseen.Visit) said (λ w. refl) (λ w. refl) in
-      beside f m e law x few m q todo at last vac rec (no-gain f m e law x few (ap (λ a. begins_cleaning (record e { act = a })) said)) word.0 (λ h k. word.1 ∙ k) refl
+      passed-by f m e law x few m q todo at last vac rec (no-gain f m e law x few (ap (λ a. begins_cleaning (record e { act = a })) said)) word.0 (λ h k. word.1 ∙ k) refl
 
   pub visit-is : (u : Unseen) (act : Act) → e.act ≡ FineAct.Unseen u → e.act ≡ (if is_visit e.act then FineAct.Unseen Unseen.Visit else by_me f.image p act) → e.act ≡ FineAct.Unseen Unseen.Visit
   visit-is u act said is = by (is_visit e.act) refl
@@ -99,13 +104,8 @@ module _ (f : Fine) (m : State) (e : FineStep) (law : Lawful f m e) (x : ℕ) (f
 
   quiet-part : (u : Unseen) → e.act ≡ FineAct.Unseen u → (todo : Todos) → p.todo ≡ todo → Result m
   quiet-part u said [] at =
-      let word = row-else f m e law x few (ap (λ i. same_site i (Site.row x)) (made-at f m e law [] at)) in
-      idle f m e law x few m at (ap (λ a. begins_cleaning (record e { act = a })) (made-says f m e law [] at) ∙ idle-quiet e.moved) (ap (λ (w : RowWord). w.stage) word) (ap (λ (w : RowWord). w.claims) word) refl
-    where
-      idle-quiet : (moved : Exchange) → begins_cleaning (record e { act = says_idle f.image p moved }) ≡ false
-      idle-quiet (Exchange.thread c None) = refl
-      idle-quiet (Exchange.thread c (Some told)) = refl
-      idle-quiet moved = refl
+      let word = row-else f m e law x few (takes-off f m e law x few at) in
+      idle f m e law x few m at (takes-quiet f m e law x few at) (ap (λ (w : RowWord). w.stage) word) (ap (λ (w : RowWord). w.claims) word) refl
   quiet-part u said (Todo.show q rest ∷ todo) at =
       elsewhere f m e law x few m (Todo.show q rest) todo at (last-shown q rest todo at) refl refl
       (ap (λ i. same_site i (Site.row x)) (made-at f m e law (Todo.show q rest ∷ todo) at) ∙ off q (made-says f m e law (Todo.show q rest ∷ todo) at)) refl
@@ -120,13 +120,24 @@ module _ (f : Fine) (m : State) (e : FineStep) (law : Lawful f m e) (x : ℕ) (f
   quiet-part u said (Todo.pass who z ∷ todo) at = look-at (Todo.pass who z) todo at tt refl refl (visit-is u _ said (made-says f m e law (Todo.pass who z ∷ todo) at))
   quiet-part u said (Todo.drop z ∷ todo) at = look-at (Todo.drop z) todo at tt refl refl (visit-is u _ said (made-says f m e law (Todo.drop z ∷ todo) at))
   quiet-part u said (Todo.clean_pair who z ∷ todo) at = look-at (Todo.clean_pair who z) todo at tt refl refl (visit-is u _ said (made-says f m e law (Todo.clean_pair who z ∷ todo) at))
+  quiet-part u said (Todo.look who site before ∷ todo) at =
+      elsewhere f m e law x few m (Todo.look who site before) todo at tt refl refl
+      (ap (λ i. same_site i (Site.row x)) (made-at f m e law (Todo.look who site before ∷ todo) at)
+      ∙ waiting-apart site (Site.row x) (is-placed f m e law (Todo.look who site before) todo at) (λ y. refl) refl refl) refl
+  quiet-part u said (Todo.handle deadline mark ∷ todo) at =
+      elsewhere f m e law x few m (Todo.handle deadline mark) todo at tt refl refl
+      (ap (λ i. same_site i (Site.row x)) (made-at f m e law (Todo.handle deadline mark ∷ todo) at) ∙ handled mark (is-placed f m e law (Todo.handle deadline mark) todo at)) refl
+    where
+      handled : (mark : Mark) → IsPlaced (Todo.handle deadline mark) → same_site (site_at f.image p (Todo.handle deadline mark ∷ todo)) (Site.row x) ≡ false
+      handled (Mark.Thread who site) place = waiting-apart site (Site.row x) place (λ y. refl) refl refl
+      handled (Mark.Timer y) place = refl
   quiet-part u said (q ∷ todo) at = elsewhere f m e law x few m q todo at tt refl refl (ap (λ i. same_site i (Site.row x)) (made-at f m e law (q ∷ todo) at)) refl
 
   -- An event of an instruction.
 
   module _ (q : Pending) (rest : Steps) (todo : Todos) (n : ℕ) (h : Shows f m e.cpu e q rest todo) (is : IsStep f m e.cpu e n q) where
-    last : ReadsLast e (Todo.show q rest) todo
-    last = last-shown q rest todo h.at
+    last : ReadsLast e (Todo.show h.listed rest) todo
+    last = last-shown h.listed rest todo h.at
 
     quiet : is_drop q ≡ false → begins_cleaning e ≡ false
     quiet drop =
@@ -158,14 +169,14 @@ module _ (f : Fine) (m : State) (e : FineStep) (law : Lawful f m e) (x : ℕ) (f
     leaves-stage : is_drop q ≡ false → is_claiming q ≡ false → is_birth q ≡ false → (row_after_act (row f x) p.context.thread (says_step f.image p q (act_in e.act))).stage ≡ (row f x).stage
         → Gone (T.after m p.context.thread n q rest) ≡ Gone m → Result (T.after m p.context.thread n q rest)
     leaves-stage drop free birth same gone =
-        beside f m e law x few (T.after m p.context.thread n q rest) (Todo.show q rest) todo h.at last refl refl (no-gain f m e law x few (quiet drop)) (keeps-stage same)
+        passed-by f m e law x few (T.after m p.context.thread n q rest) (Todo.show h.listed rest) todo h.at last refl refl (no-gain f m e law x few (quiet drop)) (keeps-stage same)
         (λ k none. keeps-claims free birth ∙ none) gone
 
     -- one that takes a claim, if the object isn't in cleaning
     takes-claim : is_drop q ≡ false → (row_after_act (row f x) p.context.thread (says_step f.image p q (act_in e.act))).stage ≡ (row f x).stage
         → ((row f x).stage ≡ Stage.Cleaning → (row later x).claims ≡ (row f x).claims) → Gone (T.after m p.context.thread n q rest) ≡ Gone m → Result (T.after m p.context.thread n q rest)
     takes-claim drop same claims gone =
-        beside f m e law x few (T.after m p.context.thread n q rest) (Todo.show q rest) todo h.at last refl refl (no-gain f m e law x few (quiet drop)) (keeps-stage same)
+        passed-by f m e law x few (T.after m p.context.thread n q rest) (Todo.show h.listed rest) todo h.at last refl refl (no-gain f m e law x few (quiet drop)) (keeps-stage same)
         (λ k none. claims k ∙ none) gone
 
   gone-same : (t n : ℕ) (q : Pending) (rest : Steps) → Makes NoStatuses q → Gone (T.after m t n q rest) ≡ Gone m
@@ -217,8 +228,8 @@ module _ (f : Fine) (m : State) (e : FineStep) (law : Lawful f m e) (x : ℕ) (f
       → Result (T.after m p.context.thread n (Pending.Born a) rest)
   born-case a rest todo n h is = by (row_named f.image a == x) refl
     where
-      last : ReadsLast e (Todo.show (Pending.Born a) rest) todo
-      last = last-shown (Pending.Born a) rest todo h.at
+      last : ReadsLast e (Todo.show h.listed rest) todo
+      last = last-shown h.listed rest todo h.at
 
       quiet : begins_cleaning e ≡ false
       quiet = ap (λ act. begins_cleaning (record e { act = act })) is.said
@@ -234,7 +245,7 @@ module _ (f : Fine) (m : State) (e : FineStep) (law : Lawful f m e) (x : ℕ) (f
 
       by : (b : Bool) → (row_named f.image a == x) ≡ b → Result (T.after m p.context.thread n (Pending.Born a) rest)
       by false k =
-          elsewhere f m e law x few (T.after m p.context.thread n (Pending.Born a) rest) (Todo.show (Pending.Born a) rest) todo h.at last refl refl
+          elsewhere f m e law x few (T.after m p.context.thread n (Pending.Born a) rest) (Todo.show h.listed rest) todo h.at last refl refl
           (ap (λ i. same_site i (Site.row x)) (site-is h) ∙ k) gone
       by true k =
           let on = ap (λ i. same_site i (Site.row x)) (site-is h) ∙ k in
@@ -243,8 +254,8 @@ module _ (f : Fine) (m : State) (e : FineStep) (law : Lawful f m e) (x : ℕ) (f
           let at = named-row f m law.rel a ∙ eqb-true (row_named f.image a) x k in
           let status : (object_at m x).status ≡ Status.Reserved = ap (λ y. (object_at m y).status) (sym at) ∙ reserved in
           let none = no-gain f m e law x few quiet in
-          let vac = vac-same f m e law x few (Todo.show (Pending.Born a) rest) todo h.at last refl none in
-          let rec = rec-same f m e law x few (Todo.show (Pending.Born a) rest) todo h.at last refl none in
+          let vac = vac-same f m e law x few (Todo.show h.listed rest) todo h.at last refl none in
+          let rec = rec-same f m e law x few (Todo.show h.listed rest) todo h.at last refl none in
           let before = (law.rel.rows x few).cleaners in
           record {
             unclaimed = λ c. absurd (not-live (sym stage ∙ c));
@@ -261,7 +272,7 @@ module _ (f : Fine) (m : State) (e : FineStep) (law : Lawful f m e) (x : ℕ) (f
       let same = named-row f m law.rel a in
       let d = drop-status m who.0 z x in
       drop-case f m e law x few (T.after m p.context.thread n (Pending.DropPair who a) rest) who a (leftover_in (act_in e.act)) (row_named f.image a) p.context.thread More.Nothing
-      (Todo.show (Pending.DropPair who a) rest) todo h.at (last-shown (Pending.DropPair who a) rest todo h.at) refl refl (site-is h) is.said
+      (Todo.show h.listed rest) todo h.at (last-shown h.listed rest todo h.at) refl refl (site-is h) is.said
       (λ ne. ap Plain.is_gone (d.1 (λ k. ne (k ∙ same))))
       (λ k quiet. ap Plain.is_gone (d.0 (ap (λ y. takes_last (T.dropped m who.0 y)) (same ∙ k) ∙ quiet)))
       (λ k loud.
@@ -350,16 +361,43 @@ module _ (f : Fine) (m : State) (e : FineStep) (law : Lawful f m e) (x : ℕ) (f
           (ap (λ n. Plain.is_gone (slice_index_or (slice_set m.objects n vacant) x vacant).status) (sym same)
           ∙ ap (λ (o : Object). Plain.is_gone o.status) (get_or-set_same m.objects x vacant vacant (in-objects few)))
 
+  -- A step beside the instructions leaves the words of rows, and which objects are gone.
+  module _ (t n : ℕ) (q : Pending) (act : FineAct) (said : e.act ≡ act) (quiet : begins_cleaning (record e { act = act }) ≡ false) (same : (w : RowWord) → row_after w act ≡ w) where
+    abbrev left : State
+    left = T.after m t n q (thread_at m t).pending
+
+    none-begins : begins_cleaning e ≡ false
+    none-begins = ap (λ a. begins_cleaning (record e { act = a })) said ∙ quiet
+
+    word : ((row later x).stage ≡ (row f x).stage) × ((row later x).claims ≡ (row f x).claims)
+    word = leaves-word f m e law x few act said (λ w. ap (λ (v : RowWord). v.stage) (same w)) (λ w. ap (λ (v : RowWord). v.claims) (same w))
+
+    on-list : (z : Todo) (todo : Todos) → p.todo ≡ z ∷ todo → ReadsLast e z todo → is_vacate x z ≡ false → is_recycle x z ≡ false → Gone left ≡ Gone m → Result left
+    on-list z todo at last vac rec gone = passed-by f m e law x few left z todo at last vac rec (no-gain f m e law x few none-begins) word.0 (λ k none. word.1 ∙ none) gone
+
+  on-beside : (t n : ℕ) (q : Pending) → Beside f m e t n q → Result (T.after m t n q (thread_at m t).pending)
+  on-beside t n _ (cuts who site before _ todo at place inside said) =
+      let q = Pending.Cut (to_thread who) in on-list t n q _ said refl (λ w. refl) (Todo.look who site before) todo at tt refl refl (gone-same t n q (thread_at m t).pending tt)
+  on-beside t n _ (times_out deadline site _ who todo at place inside said) =
+      let q = Pending.TimeOut who in on-list t n q _ said refl (λ w. refl) (Todo.handle deadline (Mark.Thread who site)) todo at tt refl refl (gone-same t n q (thread_at m t).pending tt)
+  on-beside t n _ (expires deadline z todo at inside said) =
+      on-list t n Pending.Expire _ said refl (λ w. refl) (Todo.handle deadline (Mark.Timer z)) todo at tt refl refl (gone-same t n Pending.Expire (thread_at m t).pending tt)
+  on-beside t n _ (ticks at said) =
+      let w = word t n Pending.Tick _ said refl (λ w. refl) in
+      idle f m e law x few (T.after m t n Pending.Tick (thread_at m t).pending) at (takes-quiet f m e law x few at) w.0 w.1 (gone-same t n Pending.Tick (thread_at m t).pending tt)
+  on-beside t n _ (leaves todo at said) =
+      on-list t n Pending.Left _ said refl (λ w. refl) Todo.leave todo at tt refl refl (gone-same t n Pending.Left (thread_at m t).pending tt)
+
   pub cleaners-part : (s : State) → Leaves f m e s → CleanersAre later s x
   cleaners-part _ (nothing u said) = quiet-part u said p.todo refl
   cleaners-part _ (event q rest todo n h shown is) = by-event q rest todo n h shown is
   cleaners-part _ (resumes c told rest at moved said) =
-      let word = row-else f m e law x few (ap (λ i. same_site i (Site.row x)) (made-at f m e law [] at)) in
+      let word = row-else f m e law x few (takes-off f m e law x few at) in
       idle f m e law x few (T.after m c.thread 0 Pending.Resume rest) at (ap (λ a. begins_cleaning (record e { act = a })) said) (ap (λ (w : RowWord). w.stage) word)
       (ap (λ (w : RowWord). w.claims) word) (gone-same c.thread 0 Pending.Resume rest tt)
   cleaners-part _ (passes who y rest todo h said) =
       let word = leaves-word f m e law x few _ said (λ w. refl) (λ w. refl) in
-      beside f m e law x few (T.after m p.context.thread y (Pending.Inherit (to_thread who)) rest) (Todo.pass who y) todo h.at tt refl refl
+      passed-by f m e law x few (T.after m p.context.thread y (Pending.Inherit (to_thread who)) rest) (Todo.pass who y) todo h.at tt refl refl
       (no-gain f m e law x few (ap (λ a. begins_cleaning (record e { act = a })) said)) word.0 (λ k none. word.1 ∙ none) refl
   cleaners-part _ (drops from y rest todo h said) =
       let d = drop-status m p.context.thread y x in
@@ -382,3 +420,4 @@ module _ (f : Fine) (m : State) (e : FineStep) (law : Lawful f m e) (x : ℕ) (f
       ap (λ i. Plain.is_gone (object_at (with_dropped s who y) i).status) (sym k)
       ∙ ap Plain.is_gone (d.2 (subst (λ i. y < i) (sym (length-set m.objects z o)) (in-objects h.few)) (ap (λ i. takes_last (T.dropped m who i)) k ∙ loud)))
   cleaners-part _ (recycles y rest todo at l said chosen) = recycle-case y rest todo at said
+  cleaners-part _ (beside t n q how chosen started) = on-beside t n q how

@@ -178,16 +178,16 @@ module _ (f : Fine) (m : State) (e : FineStep) (law : Lawful f m e) (x : ℕ) (f
   begins-here on h = ap (λ (w : RowWord). is_cleaning w.stage) (sym (word-here on)) ∙ begins-stage e e.act h
 
   -- A step that neither vacates nor recycles nor begins a cleaning, and leaves the stage of the row.
-  pub beside : (s : State) (q : Todo) (todo : Todos) → p.todo ≡ q ∷ todo → ReadsLast e q todo → is_vacate x q ≡ false → is_recycle x q ≡ false → gain (begins_cleaning e) (row_number e.site) ≡ 0
+  pub passed-by : (s : State) (q : Todo) (todo : Todos) → p.todo ≡ q ∷ todo → ReadsLast e q todo → is_vacate x q ≡ false → is_recycle x q ≡ false → gain (begins_cleaning e) (row_number e.site) ≡ 0
       → (row later x).stage ≡ (row f x).stage → ((row f x).stage ≡ Stage.Cleaning → (row f x).claims ≡ 0 → (row later x).claims ≡ 0) → Gone s ≡ Gone m → CleanersAre later s x
-  beside s q todo at last vac rec none stage claims gone = unchanged s (vac-same q todo at last vac none) (rec-same q todo at last rec none) stage claims gone
+  passed-by s q todo at last vac rec none stage claims gone = unchanged s (vac-same q todo at last vac none) (rec-same q todo at last rec none) stage claims gone
 
   -- the same of a step that isn't made at the row
   pub elsewhere : (s : State) (q : Todo) (todo : Todos) → p.todo ≡ q ∷ todo → ReadsLast e q todo → is_vacate x q ≡ false → is_recycle x q ≡ false → same_site e.site (Site.row x) ≡ false
       → Gone s ≡ Gone m → CleanersAre later s x
   elsewhere s q todo at last vac rec off gone =
       let word = row-else off in
-      beside s q todo at last vac rec (no-gain-else off) (ap (λ (w : RowWord). w.stage) word) (λ h k. ap (λ (w : RowWord). w.claims) word ∙ k) gone
+      passed-by s q todo at last vac rec (no-gain-else off) (ap (λ (w : RowWord). w.stage) word) (λ h k. ap (λ (w : RowWord). w.claims) word ∙ k) gone
 
   -- or that leaves its word, but for the number
   pub leaves-word : (act : FineAct) → e.act ≡ act → ((w : RowWord) → (row_after w act).stage ≡ w.stage) → ((w : RowWord) → (row_after w act).claims ≡ w.claims)
@@ -238,7 +238,7 @@ module _ (f : Fine) (m : State) (e : FineStep) (law : Lawful f m e) (x : ℕ) (f
           -- it isn't the last claim of a dying object
           stays : (row later x).stage ≡ (row f x).stage → is_cleaning (row f x).stage ≡ false → CleanersAre later m x
           stays stage not-clean =
-              beside m (Todo.end_call z) todo at tt refl refl (quiet (begins_cleaning e) refl) stage
+              passed-by m (Todo.end_call z) todo at tt refl refl (quiet (begins_cleaning e) refl) stage
               (λ h none. let c = some in absurd (omega (arith, none, c))) refl
             where
               quiet : (b : Bool) → begins_cleaning e ≡ b → gain b (row_number e.site) ≡ 0
@@ -341,7 +341,7 @@ module _ (f : Fine) (m : State) (e : FineStep) (law : Lawful f m e) (x : ℕ) (f
           which : (b : Bool) → takes_last left ≡ b → CleanersAre later s x
           which false h =
               let now-is = word-by false h in
-              beside s q todo at last vac rec (no-gain (begins-by ∙ quiet-left left (is_cleaning (row_in e.word).stage) h)) (ap (λ (v : RowWord). v.stage) now-is)
+              passed-by s q todo at last vac rec (no-gain (begins-by ∙ quiet-left left (is_cleaning (row_in e.word).stage) h)) (ap (λ (v : RowWord). v.stage) now-is)
               (λ c none. ap (λ (v : RowWord). v.claims) now-is ∙ none) (kept same (sym machine ∙ h))
           which true h = by-claims ((row f x).claims == 0) refl
             where

@@ -25,6 +25,8 @@ row-site image (Site.parts d) (SiteState.cell n z) act moved h c = absurd (false
 row-site image Site.memory (SiteState.cell n z) act moved h c = absurd (false≢true c)
 row-site image Site.heap (SiteState.cell n z) act moved h c = absurd (false≢true c)
 row-site image Site.scheduler (SiteState.cell n z) act moved h c = absurd (false≢true c)
+row-site image Site.clock (SiteState.cell n z) act moved h c = absurd (false≢true c)
+row-site image Site.joins (SiteState.cell n z) act moved h c = absurd (false≢true c)
 row-site image i st act moved h c = absurd (false≢true h)
 
 abbrev pub takes_last : Leftover → Bool

@@ -1,6 +1,6 @@
 -- A mark that is cleared next is of a row that isn't free: the call holds the object, as when it takes a creation back; it is the thread's own,
 -- which that one claims until then; or it is the stack, which is one of the image's objects.
-use Rattle.um_refinement.proofs.Words.{◌≡◌, ℕ, ◌<◌, Bool, true, false, [], ◌∷◌, length, Some, refl, sym, ap, ◌∙◌, subst, arith, eq-eqb, ◌==◌, ◌&&◌, slice_index_or, unwrap_or, true≢false, Image, ROWS, THREADS, Addr, own_row, row_at, thread_of_addr, Pending, Thread, Steps, is_empty, State, thread_at, claims, Call, call_at, call_is, core_of, status_is, below_rows, is_free, row_named, Context, Todo, Todos, Fine, one_if, row, has_steps, Fits, IsOffered, Rel, IsOf, IsClearing, Shaped}
+use Rattle.um_refinement.proofs.Words.{as_thread, own_part, runs, ◌≡◌, ℕ, ◌<◌, Bool, true, false, [], ◌∷◌, length, Some, refl, sym, ap, ◌∙◌, subst, arith, eq-eqb, ◌==◌, ◌&&◌, slice_index_or, unwrap_or, true≢false, Image, ROWS, THREADS, Addr, own_row, row_at, thread_of_addr, Pending, Thread, Steps, is_empty, State, thread_at, claims, Call, call_at, call_is, core_of, status_is, below_rows, is_free, row_named, Context, Todo, Todos, Fine, one_if, row, Fits, IsOffered, Rel, IsOf, IsClearing, Shaped}
 use Rattle.um_machine.specs.Objects as Plain
 use Rattle.um_refinement.specs.Offers as O
 use Rattle.um_refinement.proofs.Bounds.{AreBounded}
@@ -10,7 +10,8 @@ use Rattle.um_refinement.proofs.CallsProper.{AreProper}
 use Rattle.um_refinement.proofs.MemorySteps.{part-total}
 use Rattle.um_refinement.proofs.Reachable.{IsSound}
 use Rattle.um_refinement.proofs.RowStands.{claimed-stands, held-claimed, live-stands}
-use Rattle.um_refinement.proofs.StepsLeft.{offered-on}
+use Rattle.um_refinement.proofs.StepsLeft.{offered-awake, offered-on}
+use Rattle.um_refinement.proofs.Offered.{own-unless, runs-first}
 
 module _ (f : Fine) (m : State) (rel : Rel f m) (proper : AreProper m.image m) (sound : IsSound m) (bounds : AreBounded f) (k : ℕ) (l : k < f.cpus) (a : Addr) (rest : Steps) (todo : Todos)
     (at : (f.processors k).todo ≡ Todo.show (Pending.ClearInit a) rest ∷ todo) where
@@ -23,8 +24,14 @@ module _ (f : Fine) (m : State) (rel : Rel f m) (proper : AreProper m.image m) (
   offered : IsOffered f.image c (Pending.ClearInit a) rest
   offered = (subst (Fits f.image c) at (rel.processors k l).list.fits).0
 
-  of : IsOf m c
-  of = (rel.contexts.running k l (ap has_steps at)).of (offered-on f.image c (Pending.ClearInit a) rest offered)
+  running : runs (f.processors k) ≡ true
+  running = runs-first rel l (Todo.show (Pending.ClearInit a) rest) todo at (λ hand. hand)
+
+  of : IsOf f m c
+  of = (rel.contexts.running k l (running)).of (offered-on f.image c (Pending.ClearInit a) rest offered)
+
+  own : as_thread c ≡ own_part me
+  own = own-unless of (offered-awake f.image c (Pending.ClearInit a) rest offered refl)
 
   named : (x : ℕ) → row_at m.image a.0 ≡ Some x → row_named f.image a ≡ x
   named x e = ap (λ (i : Image). row_named i a) (sym rel.image) ∙ ap (λ o. unwrap_or o 0) e
@@ -37,23 +44,23 @@ module _ (f : Fine) (m : State) (rel : Rel f m) (proper : AreProper m.image m) (
     busy : (call_at (core_of m) c.thread).pending ≡ [] → ⊥
 
   pending-is : (steps : Steps) → c.pending ≡ steps → (call_at (core_of m) c.thread).pending ≡ steps
-  pending-is steps e = ap (λ (call : Call). call.pending) (call_is m c.thread) ∙ (sym (ap (λ (th : Thread). th.pending) of.own) ∙ e)
+  pending-is steps e = ap (λ (call : Call). call.pending) (call_is m c.thread) ∙ (sym (ap (λ (th : Thread). th.pending) own) ∙ e)
 
   left : IsOffered f.image c (Pending.ClearInit a) rest → Left
   left (O.goes e) =
       let here = pending-is (Pending.ClearInit a ∷ rest) e in
       record {
         clearing = subst (Shaped m.image c.thread (call_at (core_of m) c.thread).living (call_at (core_of m) c.thread).checked) here (sound.known.claimed.shaped c.thread);
-        bounded = (subst (Bounded f.image (length c.claims)) e (bounds.running k l (ap has_steps at)).steps).0;
+        bounded = (subst (Bounded f.image (length c.claims)) e (bounds.running k l (running)).steps).0;
         claims-same = λ w. ap (claims m.image w) here;
         busy = λ none. true≢false (sym (ap is_empty none) ∙ ap is_empty here);
       }
-  left (O.passed {who} e) = absurd (subst (Proper m.image me.checked) (sym (ap (λ (th : Thread). th.pending) of.own) ∙ e) (proper c.thread).0).0
+  left (O.passed {who} e) = absurd (subst (Proper m.image me.checked) (sym (ap (λ (th : Thread). th.pending) own) ∙ e) (proper c.thread).0).0
   left (O.dropped {from} e) =
       let here = pending-is (Pending.Drops from ∷ Pending.ClearInit a ∷ rest) e in
       record {
         clearing = subst (Shaped m.image c.thread (call_at (core_of m) c.thread).living (call_at (core_of m) c.thread).checked) here (sound.known.claimed.shaped c.thread);
-        bounded = (subst (Bounded f.image (length c.claims)) e (bounds.running k l (ap has_steps at)).steps).0;
+        bounded = (subst (Bounded f.image (length c.claims)) e (bounds.running k l (running)).steps).0;
         claims-same = λ w. ap (claims m.image w) here;
         busy = λ none. true≢false (sym (ap is_empty none) ∙ ap is_empty here);
       }
@@ -89,7 +96,7 @@ module _ (f : Fine) (m : State) (rel : Rel f m) (proper : AreProper m.image m) (
       let w = thread_of_addr m.image a.0 in
       let x = own_row m.image w in
       let held = sound.known.claimed.held c.thread w (h.claims-same w ∙ mine) in
-      let claimed = held-claimed f m rel sound k l (ap has_steps at) (offered-on f.image c (Pending.ClearInit a) rest offered) x
+      let claimed = held-claimed f m rel sound k l (running) (offered-on f.image c (Pending.ClearInit a) rest offered) x
       (ap (λ (call : Call). slice_index_or call.checked x false) (sym (call_is m c.thread)) ∙ held) in
       subst (λ y. is_free (row f y).stage ≡ false) (sym (named x e)) (claimed-stands f m rel sound x claimed.0 claimed.1).0
 

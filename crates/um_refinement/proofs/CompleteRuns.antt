@@ -16,7 +16,7 @@ none-complete : (image : Image) (cpus : ℕ) → IsDescribed image → length im
 none-complete image cpus described none =
     let boots = ap (λ (i : Image). i.boots) (opening-image image) ∙ no-boots image image.boots described.lawful.boots none in
     idle-complete (first image cpus) (opening image) (opens-described image described cpus)
-    (record { lists = λ k l. refl; ready = λ t l. ap (λ (bs : List Boot). occurs t (map (boot_index (opening image)) bs)) boots })
+    (record { lists = λ k l. refl; ready = λ t l. ap (λ (bs : List Boot). occurs t (map (boot_index (opening image)) bs)) boots; due = refl; next = refl })
     (opening-wide image described.few) (children-known image cpus (opening image) ([], refl))
 
 pub complete-runs : (image : Image) (cpus : ℕ) → IsDescribed image → CanRun image cpus → (h : List FineStep) → IsFineRun image cpus h

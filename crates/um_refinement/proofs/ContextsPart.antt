@@ -1,27 +1,34 @@
 -- Own parts lie with processors, parked, or with a new thread on a list, and are those of the machine's threads, after every lawful step.
-use Rattle.um_refinement.proofs.Words.{◌≡◌, inl, inr, ℕ, ◌+◌, ◌<◌, Bool, true, false, cond, List, [], ◌∷◌, length, Option, Some, None, refl, sym, ap, ◌∙◌, subst, arith, eq-eqb, ℤ, ◌==◌, ◌&&◌, IsTrue, if◌then◌else◌, is_some, nat_lt, not, slice_index_or, slice_set, unwrap_or, list_all, and_parts, eqb-false, eqb-true, false≢true, ltb-true, true≢false, get_or-set_at, get_or-set_other, get_or-set_same, length-set, Act, Told, ROWS, THREADS, Mode, Row, ThreadIx, IsLawful, Pending, Life, Thread, Steps, to_thread, is_empty, State, is_living, is_started, thread_at, with_thread, FineAct, Unseen, act_in, context_in, domain_in, is_visit, is_word_read, ready_in, begins_cleaning, by_me, says, says_idle, says_show, shows, Context, as_thread, continues, newborn, resumed, after_claim, after_show, after_take, dropped_at, goes_on_by, p_next, Todo, Todos, Scheduler, parked_at, put_back, waits, same_site, Exchange, FineStep, Site, Fine, one_if, scheduler, AreFramed, Adds, adders, has_steps, of_thread, runs, Fits, IsPutBack, behind_shown, is_over, IsOf, IsRun, flags_of, is_ended, own_part, runs_on, visits}
+use Rattle.um_refinement.proofs.Words.{◌⊎◌, zero, suc, Processor, Image, AreBlocks, ◌≡◌, inl, inr, ℕ, ◌+◌, ◌<◌, Bool, true, false, cond, List, [], ◌∷◌, length, Option, Some, None, refl, sym, ap, ◌∙◌, subst, arith, eq-eqb, ◌==◌, ◌&&◌, if◌then◌else◌, is_some, nat_lt, not, slice_index_or, list_all, and_parts, eqb-false, eqb-true, false≢true, ltb-true, true≢false, get_or-set_same, length-set, Act, Told, ROWS, THREADS, Pending, Life, to_thread, is_empty, State, thread_at, FineAct, Unseen, act_in, domain_in, is_visit, is_word_read, begins_cleaning, by_me, says, says_show, shows, Context, as_thread, continues, resumed, after_claim, after_show, after_take, dropped_at, goes_on_by, p_next, Todo, Todos, parked_at, waits, Exchange, FineStep, Fine, one_if, scheduler, adders, has_steps, of_thread, runs, is_over, IsOf, IsRun, flags_of, is_ended, runs_on, visits}
 use Rattle.um_machine.specs.Table as T
-use Rattle.um_refinement.proofs.CallsKnown.{RestsHoldNothing, starts-below}
-use Rattle.um_refinement.proofs.CallsProper.{AreProper, Closing}
+use Rattle.um_words.specs.declared.fine.Mark.{Mark}
+use Rattle.um_fine.specs.Answers.{is_killed, is_tick, thread_in}
+use Rattle.um_fine.specs.Asks.{begins, says_turn}
+use Rattle.um_fine.specs.Follows.{refilled_by, shown_step}
+use Rattle.um_fine.specs.Places.{put_away, turn}
+use Rattle.um_fine.specs.Scheduler.{is_cut, to_kill}
+use Rattle.um_refinement.specs.Lists.{times}
+use Rattle.um_refinement.specs.Threads.{as_cut, cutters}
+use Rattle.um_refinement.proofs.CallsKnown.{RestsHoldNothing}
 use Rattle.um_refinement.proofs.Erased.{around}
 use Rattle.um_refinement.proofs.LawfulSteps.{Suits}
-use Rattle.um_refinement.proofs.Leaves.{HasStep, Lawful, Leaves, cleans, drops, event, nothing, passes, recycles, resumes}
-use Rattle.um_refinement.proofs.ListAdders.{next-adds, takes-none}
-use Rattle.um_refinement.proofs.ListGrips.{cleaned-context, read-rests}
-use Rattle.um_refinement.proofs.ListGrowth.{ReadsLast, is_end}
-use Rattle.um_refinement.proofs.ListRuns.{ends-rests}
+use Rattle.um_refinement.proofs.Leaves.{Beside, HasStep, Lawful, Leaves, beside, cuts, expires, ticks, times_out, cleans, drops, event, nothing, passes, recycles, resumes}
+use Rattle.um_refinement.proofs.Leaves as L
+use Rattle.um_refinement.proofs.ListGrips.{next-context}
+use Rattle.um_refinement.proofs.ListGrowth.{is_end}
+use Rattle.um_refinement.proofs.ListRuns.{ends-rests, goes-runs, takes-none}
 use Rattle.um_refinement.proofs.MemoryPart.{InDomains}
-use Rattle.um_refinement.proofs.Offered.{Shows, behind-is, own-part, shown-offers}
+use Rattle.um_refinement.proofs.Offered.{not-cut, own-part}
 use Rattle.um_refinement.proofs.OfKept.{of-kept}
 use Rattle.um_refinement.proofs.OfVisits.{of-drops, of-passes, of-resumes}
-use Rattle.um_refinement.proofs.OwnKept.{starts-another}
-use Rattle.um_refinement.proofs.PartsElsewhere.{Apart, IsTaken, apart-from, of-stays, parks-after, started-kept, taken-parked, taken-told, takes-first}
-use Rattle.um_refinement.proofs.PlacesFacts.{adds-count, lies-here, lies-once, lies-unparked, running-unparked, set-none}
-use Rattle.um_refinement.proofs.RunningPart.{is_scheduling, todo-elsewhere}
-use Rattle.um_refinement.proofs.SchedulerSteps.{made-at, made-moves, made-says, sched-else, sched-later}
-use Rattle.um_refinement.proofs.StepReads.{behind_first, shows_first}
-use Rattle.um_refinement.proofs.StepsLeft.{rests-on, steps-on}
-use Rattle.um_refinement.proofs.ThreadLists.{at-here, set-else}
+use Rattle.um_refinement.proofs.PartsElsewhere.{Apart, CutsNot, apart-from, cuts-or-not, cutters-same, elsewhere-of, of-stays, started-kept}
+use Rattle.um_refinement.proofs.Taking.{CutNow, Idles, IsTaken, idles, kill-thread, of-cut, of-taken, taken-index, taken-parked, taken-told, taken-uncut, takes, takes-first, tends}
+use Rattle.um_refinement.proofs.CuttersKept.{cutters-taken}
+use Rattle.um_refinement.proofs.VisitSteps.{visit-runs}
+use Rattle.um_refinement.proofs.PlacesFacts.{lies-once, lies-unparked}
+use Rattle.um_refinement.proofs.SchedulerSteps.{made-says}
+use Rattle.um_refinement.proofs.StepReads.{is-behind, reads-last}
+use Rattle.um_refinement.proofs.StepsLeft.{steps-on}
 
 -- A call of a thread that holds nothing has no rows.
 
@@ -43,8 +50,8 @@ pub ended-not : (life : Life) → is_ended life ≡ true → life ≡ Life.Livin
 ended-not life h same = false≢true (sym (ap is_ended same) ∙ h)
 
 -- of the thread of a processor, where the part is that of the machine's thread
-run-of : (s : State) (c : Context) → RestsHoldNothing s → IsOf s c → IsRun s c
-run-of s c rests of =
+run-of : (g : Fine) (s : State) (c : Context) → RestsHoldNothing s → IsOf g s c → IsRun g s c
+run-of g s c rests of =
     record {
       index = of.index;
       started = of.started;
@@ -55,27 +62,62 @@ run-of s c rests of =
           (λ x. ap (λ (flags : List Bool). slice_index_or flags x false) (sym of.claims) ∙ rests c.thread x (inl (ended-not (thread_at s c.thread).life (sym of.ended ∙ ended))));
     }
 
+-- and one that notes down where it waits is as before
+noted-of : (g : Fine) (s : State) (c : Context) (n : Option ℕ) → IsOf g s c → IsOf g s (record c { noted = n })
+noted-of g s c n of =
+    record {
+      index = of.index;
+      own = cut-noted (cutters g c.thread) ∙ of.own;
+      waiting = of.waiting;
+      claims = of.claims;
+      ended = of.ended;
+      started = of.started;
+      below = of.below;
+    }
+  where
+    cut-noted : (k : ℕ) → as_thread (as_cut k (record c { noted = n })) ≡ as_thread (as_cut k c)
+    cut-noted zero = refl
+    cut-noted (suc k) = refl
+
+pub noted-run : (g : Fine) (s : State) (c : Context) (n : Option ℕ) → IsRun g s c → IsRun g s (record c { noted = n })
+noted-run g s c n run = record { index = run.index; started = run.started; of = λ on. noted-of g s c n (run.of on); over = run.over }
+
 abbrev pub is_shown : FineAct → Bool
 is_shown (FineAct.Shown said more) = true
 is_shown (FineAct.Unseen u) = false
+
+abbrev pub is_sleep_step : Todo → Bool
+is_sleep_step Todo.sleep = true
+is_sleep_step q = false
+
+-- a thread that is taken is run with its own part
+pub take-context : (image : Image) (p : Processor) (c : Context) → (after_take image p (Exchange.thread c None)).context ≡ c
+take-context image p c =
+    elim (is_empty c.pending) as (λ b. (if b then record p { context = c; todo = turn image c } else refilled_by image (record p { context = c }) []).context ≡ c) [ true ↦ refl | false ↦ refl ]
+
+-- whether a step is one beside the instructions
+abbrev is_beside : {f : Fine} {m : State} {e : FineStep} {s : State} → Leaves f m e s → Bool
+is_beside (beside t x q how chosen started) = true
+is_beside l = false
 
 module _ (f : Fine) (m : State) (e : FineStep) (law : Lawful f m e) where
   open around f e use {processor as p, now}
 
   -- the own part that the maker has then
   pub now-context : (todo : Todos) → p.todo ≡ todo → now.context ≡ (goes_on_by f.image p e todo).context
-  now-context todo at = cleaned-context f.image (goes_on_by f.image p e p.todo) e (begins_cleaning e) ∙ ap (λ (z : Todos). (goes_on_by f.image p e z).context) at
+  now-context todo at = next-context f.image p e ∙ ap (λ (z : Todos). (goes_on_by f.image p e z).context) at
 
   -- a step that no trace shows and that is no last one of a turn leaves it
   pub read-only : (q : Pending) → e.act ≡ says_show f.image p q e.act → is_shown e.act ≡ false → is_word_read e.act ≡ true
   read-only q said quiet = by q said
     where
-      either : (q : Pending) → e.act ≡ (if is_word_read e.act then FineAct.Unseen Unseen.WordRead else shows f.image p q e.act) → is_word_read e.act ≡ true
-      either q said = which (is_word_read e.act) refl
+      either : (q : Pending) → e.act ≡ begins f.image p q e.act → is_word_read e.act ≡ true
+      either q said = which (is_word_read e.act) refl (is_killed e.act) refl
         where
-          which : (b : Bool) → is_word_read e.act ≡ b → b ≡ true
-          which true h = refl
-          which false h = absurd (false≢true (sym quiet ∙ ap is_shown (said ∙ ap (λ b. if b then FineAct.Unseen Unseen.WordRead else shows f.image p q e.act) h)))
+          which : (b : Bool) → is_word_read e.act ≡ b → (k : Bool) → is_killed e.act ≡ k → b ≡ true
+          which true h k i = refl
+          which false h true i = absurd (false≢true (sym quiet ∙ ap is_shown (said ∙ (λ j. if h j then FineAct.Unseen Unseen.WordRead else if i j then by_me f.image p Act.Killed else shows f.image p q e.act))))
+          which false h false i = absurd (false≢true (sym quiet ∙ ap is_shown (said ∙ (λ j. if h j then FineAct.Unseen Unseen.WordRead else if i j then by_me f.image p Act.Killed else shows f.image p q e.act))))
 
       by : (q : Pending) → e.act ≡ says_show f.image p q e.act → is_word_read e.act ≡ true
       by Pending.Begin said = either Pending.Begin said
@@ -93,371 +135,207 @@ module _ (f : Fine) (m : State) (e : FineStep) (law : Lawful f m e) where
   claim-context d true todo = refl
   claim-context d false todo = refl
 
-  pub quiet-context : (q : Todo) (todo : Todos) → p.todo ≡ q ∷ todo → is_end q ≡ false → is_shown e.act ≡ false → now.context ≡ p.context
-  quiet-context q todo at goes quiet = now-context (q ∷ todo) at ∙ by q goes (made-says f m e law (q ∷ todo) at)
+  -- but for where it notes down that it waits, and where it goes to sleep
+  pub quiet-context : (q : Todo) (todo : Todos) → p.todo ≡ q ∷ todo → is_end q ≡ false → is_sleep_step q ≡ false → is_shown e.act ≡ false → (n : Option ℕ) × (now.context ≡ record p.context { noted = n })
+  quiet-context q todo at goes wakes quiet = let r = by q goes wakes (made-says f m e law (q ∷ todo) at) in (r.0, now-context (q ∷ todo) at ∙ r.1)
     where
-      by : (q : Todo) → is_end q ≡ false → e.act ≡ says f.image p (q ∷ todo) e.act e.moved → (goes_on_by f.image p e (q ∷ todo)).context ≡ p.context
-      by (Todo.show r rest) h said =
-          ap (λ b. (if b then record p { todo = Todo.done ∷ [] } else after_show f.image p e r rest todo).context) (read-only r said quiet)
-      by (Todo.read_claim None) h said = refl
-      by (Todo.read_claim (Some d)) h said = claim-context d (domain_in e.word).init todo
-      by (Todo.drop x) h said = ap (λ b. dropped_at f.image p.context x b) (look-only _ said quiet)
-      by Todo.park h said = absurd (true≢false h)
-      by Todo.done h said = absurd (true≢false h)
-      by r h said = refl
+      Noted : Context → Type 0
+      Noted c = (n : Option ℕ) × (c ≡ record p.context { noted = n })
+
+      same : {c : Context} → c ≡ p.context → Noted c
+      same k = (p.context.noted, k)
+
+      by : (q : Todo) → is_end q ≡ false → is_sleep_step q ≡ false → e.act ≡ says f.image p (q ∷ todo) e.act e.moved → Noted (goes_on_by f.image p e (q ∷ todo)).context
+      by (Todo.show r rest) h w said =
+          same (ap (λ b. (if b then record p { todo = put_away (thread_in e.word).doomed } else after_show f.image p e (shown_step f.image r e.act) rest todo).context) (read-only r said quiet))
+      by (Todo.note site) h w said = (Some (thread_in e.word).number, refl)
+      by (Todo.read_claim None) h w said = same refl
+      by (Todo.read_claim (Some d)) h w said = same (claim-context d (domain_in e.word).init todo)
+      by (Todo.drop x) h w said = same (ap (λ b. dropped_at f.image p.context x b) (look-only _ said quiet))
+      by Todo.park h w said = absurd (true≢false h)
+      by Todo.done h w said = absurd (true≢false h)
+      by Todo.paid h w said = absurd (true≢false h)
+      by Todo.sleep h w said = absurd (true≢false w)
+      by r h w said = same refl
 
   open around f e use {later}
+  open is-behind f m e law use {frame}
 
-  -- An own part that lies elsewhere is that of the machine's thread as before.
+  -- An own part that lies with the maker, or with nobody, is that of the machine's thread as before, unless a look cuts it.
 
-  run-stays : (s : State) (leaves : Leaves f m e s) (c : Context) → IsRun m c → (is_over c ≡ false → Apart f m e law s leaves s leaves c.thread) → IsRun s c
-  run-stays s leaves c run apart =
-      record {
-        index = run.index;
-        started = started-kept f m e law s leaves c.thread run.index run.started;
-        of = λ on. of-stays f m e law s leaves c (run.of on) (apart on);
-        over = run.over;
-      }
+  pub own-of : (s : State) (how : Leaves f m e s) (c : Context) → IsOf f m c → (CutsNot f m e law s how s how c.thread → Apart f m e law s how s how c.thread)
+      → ((d : Context) (told : Option Told) → p.todo ≡ [] → e.moved ≡ Exchange.thread d told → d.thread ≡ c.thread → ⊥) → IsOf later s c
+  own-of s how c of apart untaken = by (cuts-or-not f m e law s how c.thread)
+    where
+      by : CutsNot f m e law s how s how c.thread ⊎ CutNow f m e c.thread s → IsOf later s c
+      by (inl free) = of-stays f m e law s how c of (apart free) (cutters-same f m e law s how c.thread of.index free untaken)
+      by (inr is) = of-cut f m e law c of s is
+
+  run-stays : (s : State) (how : Leaves f m e s) (c : Context) → IsRun f m c → (is_over c ≡ false → IsOf later s c) → IsRun later s c
+  run-stays s how c run of =
+      record { index = run.index; started = started-kept f m e law s how c.thread run.index run.started; of = of; over = run.over }
 
   -- the maker of the step runs this thread
-  makes-part : (v : ℕ) → runs_on v p ≡ true → 0 < one_if (runs_on v p) + of_thread v (adders p.todo)
+  pub makes-part : (v : ℕ) → runs_on v p ≡ true → 0 < one_if (runs_on v p) + of_thread v (adders p.todo)
   makes-part v h = let one = ap one_if h in omega (arith, one)
 
-  pub apart-with : (s : State) (leaves : Leaves f m e s) (v : ℕ) → v < THREADS → (c : Context) → IsOf m c → c.thread ≡ v → is_over c ≡ false → (k : ℕ) → k < f.cpus → (e.cpu == k) ≡ false
-      → 0 < one_if (runs_on v (f.processors k)) + of_thread v (adders (f.processors k).todo) → Apart f m e law s leaves s leaves v
-  apart-with s leaves v few c of at on k l other some =
-      apart-from f m e law s leaves v few c of at on
-      (λ mine-on. lies-once f m law.rel v few e.cpu k law.by.named l (eqb-false e.cpu k other) (makes-part v mine-on) some)
-      (λ d told idle moved same.
-      let parked = taken-parked f m e law idle d (Some told) moved in
-      let there : is_some (parked_at (scheduler f) v) ≡ true = ap (λ n. is_some (parked_at (scheduler f) n)) (sym same) ∙ ap is_some parked in
-      true≢false (sym there ∙ lies-unparked f m law.rel v few k l some))
+  -- who is taken was parked
+  pub taken-lies : p.todo ≡ [] → (d : Context) (told : Option Told) → e.moved ≡ Exchange.thread d told → is_some (parked_at (scheduler f) d.thread) ≡ true
+  taken-lies idle d told moved =
+      let (first, is, tells) = takes-first f m e law idle d told moved in
+      ap (λ n. is_some (parked_at (scheduler f) n)) (ap (λ (z : Context). z.thread) is ∙ (kill-thread (is_cut (scheduler f) first.thread) first.parked ∙ first.same)) ∙ ap is_some first.there
+
+  -- one with another processor is neither run by the maker nor taken
+  module _ (s : State) (how : Leaves f m e s) (v : ℕ) (few : v < THREADS) (c : Context) (of : IsOf f m c) (at : c.thread ≡ v) (on : is_over c ≡ false)
+      (k : ℕ) (l : k < f.cpus) (other : (e.cpu == k) ≡ false) (some : 0 < one_if (runs_on v (f.processors k)) + of_thread v (adders (f.processors k).todo)) where
+    alone-with : runs_on v p ≡ true → ⊥
+    alone-with mine-on = lies-once f m law.rel v few e.cpu k law.by.named l (eqb-false e.cpu k other) (makes-part v mine-on) some
+
+    untaken-with : (d : Context) (told : Option Told) → p.todo ≡ [] → e.moved ≡ Exchange.thread d told → d.thread ≡ v → ⊥
+    untaken-with d told idle moved same =
+        true≢false (sym (subst (λ n. is_some (parked_at (scheduler f) n) ≡ true) same (taken-lies idle d told moved)) ∙ lies-unparked f m law.rel v few k l some)
+
+    pub apart-with : CutsNot f m e law s how s how v → Apart f m e law s how s how v
+    apart-with = apart-from f m e law s how v few c of at on alone-with untaken-with
+
+    pub part-with : IsOf later s c
+    part-with = elsewhere-of f m e law s how v few c of at on alone-with untaken-with
+
+  pub not-idle : (q : Todo) (todo : Todos) → p.todo ≡ q ∷ todo → p.todo ≡ [] → ⊥
+  not-idle q todo at idle = true≢false (ap has_steps (sym at ∙ idle))
+
+  pub ran : (q : Todo) (todo : Todos) → p.todo ≡ q ∷ todo → is_end q ≡ false → runs now ≡ true → runs p ≡ true
+  ran q todo at goes h =
+      sym (goes-runs f.image p e q todo at goes (frame q todo at) (reads-last f m e law q todo at) (subst (AreBlocks f.image) at (law.rel.processors e.cpu law.by.named).blocks)) ∙ h
 
   module _ (suits : Suits f m) (all : InDomains f m) where
     -- The thread of the processor that makes the step.
 
-    taken-run : (s : State) → RestsHoldNothing m → p.todo ≡ [] → is_shown e.act ≡ false → IsRun m now.context
-    taken-run s rests at quiet = by first.told first.moved
+    taken-run : RestsHoldNothing m → p.todo ≡ [] → runs now ≡ true → is_shown e.act ≡ false → IsRun later m now.context
+    taken-run rests at h quiet = by (idles f m e law at)
       where
-        first : IsTaken f e
-        first = takes-first f m e law at
+        told-none : (first : IsTaken f e) → (told : Option Told) → e.moved ≡ Exchange.thread (to_kill (is_cut (scheduler f) first.thread) first.parked) told → IsRun later m now.context
+        told-none first None moved =
+            let c = to_kill (is_cut (scheduler f) first.thread) first.parked in
+            subst (IsRun later m) (sym (now-context [] at ∙ (ap (λ (mv : Exchange). (after_take f.image p mv).context) moved ∙ take-context f.image p c)))
+            (run-of later m c rests (of-taken f m e law at first (law.rel.contexts.parked first.thread first.parked first.there).0))
+        told-none first (Some w) moved = absurd (false≢true (sym quiet ∙ ap is_shown (first.said ∙ ap (says_turn f.image p) moved)))
 
-        by : (told : Option Told) → e.moved ≡ Exchange.thread first.context told → IsRun m now.context
-        by None moved =
-            subst (IsRun m) (sym (now-context [] at ∙ ap (λ (mv : Exchange). (after_take f.image p mv).context) moved))
-            (run-of m first.context rests (law.rel.contexts.parked first.context.thread first.context (taken-parked f m e law at first.context None moved)).0)
-        by (Some w) moved = absurd (false≢true (sym quiet ∙ ap is_shown (made-says f m e law [] at ∙ ap (says_idle f.image p) moved)))
+        by : Idles f e → IsRun later m now.context
+        by (takes first) = told-none first first.told first.moved
+        by (tends is) = absurd (false≢true (sym (takes-none f.image p e at is.other is.quiet) ∙ h))
 
-    quiet-run : RestsHoldNothing m → runs now ≡ true → is_shown e.act ≡ false → (todo : Todos) → p.todo ≡ todo → IsRun m now.context
-    quiet-run rests runs-now quiet [] at = taken-run m rests at quiet
-    quiet-run rests runs-now quiet (q ∷ todo) at = by (is_end q) refl
+    -- one that goes on with its list, and its own part
+    going : (s : State) (how : Leaves f m e s) (q : Todo) (todo : Todos) → p.todo ≡ q ∷ todo → is_end q ≡ false → runs now ≡ true
+        → (CutsNot f m e law s how s how p.context.thread → Apart f m e law s how s how p.context.thread) → IsRun later s p.context
+    going s how q todo at goes h apart =
+        let run = law.rel.contexts.running e.cpu law.by.named (ran q todo at goes h) in
+        run-stays s how p.context run (λ on. own-of s how p.context (run.of on) apart (λ d told idle. absurd (not-idle q todo at idle)))
+
+    ends-not : {A : Type 0} (q : Todo) (todo : Todos) → p.todo ≡ q ∷ todo → is_end q ≡ true → runs now ≡ true → A
+    ends-not q todo at over h =
+        absurd (false≢true (sym (ap (λ (z : Todos). has_steps z && not (times z)) (ends-rests f.image p e q todo at over (cleans-none q over (made-says f m e law (q ∷ todo) at)))) ∙ h))
       where
-        by : (b : Bool) → is_end q ≡ b → IsRun m now.context
-        by false goes = subst (IsRun m) (sym (quiet-context q todo at goes quiet)) (law.rel.contexts.running e.cpu law.by.named (ap has_steps at))
-        by true over = absurd (false≢true (sym (ap has_steps (ends-rests f.image p e q todo at over (cleans-none q over (made-says f m e law (q ∷ todo) at)))) ∙ runs-now))
-          where
-            cleans-none : (q : Todo) → is_end q ≡ true → e.act ≡ says f.image p (q ∷ todo) e.act e.moved → begins_cleaning e ≡ false
-            cleans-none Todo.park h said = ap (λ a. begins_cleaning (record e { act = a })) said
-            cleans-none Todo.done h said = ap (λ a. begins_cleaning (record e { act = a })) said
-            cleans-none r h said = absurd (false≢true h)
+        cleans-none : (q : Todo) → is_end q ≡ true → e.act ≡ says f.image p (q ∷ todo) e.act e.moved → begins_cleaning e ≡ false
+        cleans-none Todo.park h said = ap (λ a. begins_cleaning (record e { act = a })) said
+        cleans-none Todo.done h said = ap (λ a. begins_cleaning (record e { act = a })) said
+        cleans-none Todo.paid h said = ap (λ a. begins_cleaning (record e { act = a })) said
+        cleans-none r h said = absurd (false≢true h)
 
-    mine-run : (s : State) (leaves : Leaves f m e s) → HasStep f m e s leaves → RestsHoldNothing s → runs now ≡ true → IsRun s now.context
-    mine-run _ (nothing u said) has rests h = quiet-run rests h (ap is_shown said) p.todo refl
+    quiet-run : (u : Unseen) → e.act ≡ FineAct.Unseen u → RestsHoldNothing m → runs now ≡ true → (todo : Todos) → p.todo ≡ todo → IsRun later m now.context
+    quiet-run u said rests h [] at = taken-run rests at h (ap is_shown said)
+    quiet-run u said rests h (Todo.sleep ∷ todo) at =
+        let run = law.rel.contexts.running e.cpu law.by.named (ran Todo.sleep todo at refl h) in
+        subst (IsRun later m) (sym (now-context (Todo.sleep ∷ todo) at)) (record { index = run.index; started = run.started; of = λ on. absurd (true≢false on); over = λ o. refl })
+    quiet-run u said rests h (q ∷ todo) at = by (is_end q) refl
+      where
+        by : (b : Bool) → is_end q ≡ b → IsRun later m now.context
+        by false goes =
+            let r = quiet-context q todo at goes refl (ap is_shown said) in
+            subst (IsRun later m) (sym r.1) (noted-run later m p.context r.0 (going m (nothing u said) q todo at goes h (λ free. tt)))
+        by true over = ends-not q todo at over h
+
+    -- nobody cuts the thread of an event
+    pub event-uncut : (s : State) (how : Leaves f m e s) (q : Todo) (todo : Todos) → p.todo ≡ q ∷ todo → CutsNot f m e law s how s how p.context.thread → IsOf f m p.context → waits p.context.pending ≡ false
+        → cutters later p.context.thread ≡ 0
+    event-uncut s how q todo at free of awake =
+        cutters-same f m e law s how p.context.thread of.index free (λ d told idle. absurd (not-idle q todo at idle)) ∙ not-cut of awake
+
+    -- a step beside the instructions is of no thread but the one that it cuts
+    apart-beside : {s : State} (how : Leaves f m e s) → is_beside how ≡ true → CutsNot f m e law s how s how p.context.thread → Apart f m e law s how s how p.context.thread
+    apart-beside (beside t x q how chosen started) h free = free
+    apart-beside l h free = absurd (false≢true h)
+
+    beside-run : (t x : ℕ) (q : Pending) → Beside f m e t x q → (how : Leaves f m e (T.after m t x q (thread_at m t).pending)) → is_beside how ≡ true → runs now ≡ true → IsRun later (T.after m t x q (thread_at m t).pending) now.context
+    beside-run t x _ (cuts who site before _ todo at place inside said) how is h =
+        subst (IsRun later _) (sym (now-context (Todo.look who site before ∷ todo) at)) (going _ how (Todo.look who site before) todo at refl h (apart-beside how is))
+    beside-run t x _ (times_out deadline site _ who todo at place inside said) how is h =
+        let z = Todo.handle deadline (Mark.Thread who site) in subst (IsRun later _) (sym (now-context (z ∷ todo) at)) (going _ how z todo at refl h (apart-beside how is))
+    beside-run t x _ (expires deadline y todo at inside said) how is h =
+        let z = Todo.handle deadline (Mark.Timer y) in subst (IsRun later _) (sym (now-context (z ∷ todo) at)) (going _ how z todo at refl h (apart-beside how is))
+    beside-run t x _ (ticks at said) how is h = by (idles f m e law at)
+      where
+        turns : (c : Context) (told : Option Told) → e.act ≡ says_turn f.image p (Exchange.thread c told) → ⊥
+        turns c None k = false≢true (ap is_tick (sym k ∙ said))
+        turns c (Some w) k = false≢true (ap is_tick (sym k ∙ said))
+
+        by : Idles f e → IsRun later (T.after m t x Pending.Tick (thread_at m t).pending) now.context
+        by (takes first) = absurd (turns (to_kill (is_cut (scheduler f) first.thread) first.parked) first.told (first.said ∙ ap (says_turn f.image p) first.moved))
+        by (tends is) = absurd (false≢true (sym (takes-none f.image p e at is.other is.quiet) ∙ h))
+    beside-run t x _ (L.leaves todo at said) how is h =
+        subst (IsRun later _) (sym (now-context (Todo.leave ∷ todo) at)) (going _ how Todo.leave todo at refl h (apart-beside how is))
+
+    mine-run : (s : State) (how : Leaves f m e s) → HasStep f m e s how → RestsHoldNothing s → runs now ≡ true → IsRun later s now.context
+    mine-run _ (nothing u said) has rests h = quiet-run u said rests h p.todo refl
     mine-run s (event q rest todo x h shown is) has rests k =
-        subst (IsRun s)
-        (sym (now-context (Todo.show q rest ∷ todo) h.at ∙ ap (λ b. (if b then record p { todo = Todo.done ∷ [] } else after_show f.image p e q rest todo).context) h.shown))
-        (run-of s (continues f.image p.context 0 q rest (act_in e.act) e.moved) rests (of-kept f m e law suits all rest todo x q h shown is))
+        let l = event q rest todo x h shown is in
+        subst (IsRun later s)
+        (sym (now-context (Todo.show h.listed rest ∷ todo) h.at
+        ∙ (ap (λ b. (if b then record p { todo = put_away (thread_in e.word).doomed } else after_show f.image p e (shown_step f.image h.listed e.act) rest todo).context) h.shown
+        ∙ ap (λ r. (after_show f.image p e r rest todo).context) h.made)))
+        (run-of later s (continues f.image p.context 0 q rest (act_in e.act) e.moved) rests
+        (of-kept f m e law suits all rest todo x q h shown is (event-uncut s l (Todo.show h.listed rest) todo h.at tt (own-part h) h.awake)))
     mine-run s (resumes c told rest idle moved said) has rests h =
-        subst (IsRun s) (sym (now-context [] idle ∙ ap (λ (mv : Exchange). (after_take f.image p mv).context) moved))
-        (run-of s (resumed f.image c told) rests
-        (of-resumes f m e law c told rest (law.rel.contexts.parked c.thread c (taken-parked f m e law idle c (Some told) moved)).0 has (taken-told f m e law idle c told moved)))
+        let (first, is, tells) = takes-first f m e law idle c (Some told) moved in
+        let parked = taken-parked f m e law idle c told moved in
+        let of = (law.rel.contexts.parked c.thread c parked).0 in
+        let none = taken-uncut f m e law idle c told moved of.index in
+        let same : c.thread ≡ first.thread = ap (λ (z : Context). z.thread) is ∙ (kill-thread (is_cut (scheduler f) first.thread) first.parked ∙ first.same) in
+        let counts = cutters-taken f m e law idle first.site first.said first.thread first.list first.ready (taken-index f m e law first) in
+        let was : cutters f first.thread ≡ 0 = ap (cutters f) (sym same) ∙ none in
+        let now-none : cutters later first.thread ≡ 0 = omega (arith, counts, was) in
+        subst (IsRun later s) (sym (now-context [] idle ∙ ap (λ (mv : Exchange). (after_take f.image p mv).context) moved))
+        (run-of later s (resumed f.image c told) rests
+        (of-resumes f m e law c told rest of none (ap (cutters later) same ∙ now-none) has (taken-told f m e law idle c told moved)))
     mine-run s (passes who x rest todo v said) has rests h =
-        subst (IsRun s) (sym (now-context (Todo.pass who x ∷ todo) v.at))
-        (run-of s p.context rests
-        (of-passes f m e law p.context who x rest ((law.rel.contexts.running e.cpu law.by.named (ap has_steps v.at)).of (steps-on p.context (Pending.Inherit (to_thread who)) rest has)) has))
+        let l = passes who x rest todo v said in
+        let of = (law.rel.contexts.running e.cpu law.by.named (visit-runs v (λ hand. hand))).of (steps-on p.context (Pending.Inherit (to_thread who)) rest has) in
+        subst (IsRun later s) (sym (now-context (Todo.pass who x ∷ todo) v.at))
+        (run-of later s p.context rests (of-passes f m e law p.context who x rest of (event-uncut s l (Todo.pass who x) todo v.at tt of (ap waits has)) has))
     mine-run s (drops from x rest todo v said) has rests h =
-        subst (IsRun s) (sym (now-context (Todo.drop x ∷ todo) v.at ∙ ap (λ b. dropped_at f.image p.context x b) v.shown))
-        (run-of s (dropped_at f.image p.context x false) rests
-        (of-drops f m e law p.context from x rest ((law.rel.contexts.running e.cpu law.by.named (ap has_steps v.at)).of (steps-on p.context (Pending.Drops from) rest has)) has))
+        let l = drops from x rest todo v said in
+        let of = (law.rel.contexts.running e.cpu law.by.named (visit-runs v (λ hand. hand))).of (steps-on p.context (Pending.Drops from) rest has) in
+        subst (IsRun later s) (sym (now-context (Todo.drop x ∷ todo) v.at ∙ ap (λ b. dropped_at f.image p.context x b) v.shown))
+        (run-of later s (dropped_at f.image p.context x false) rests (of-drops f m e law p.context from x rest of (event-uncut s l (Todo.drop x) todo v.at tt of (ap waits has)) has))
     mine-run s (cleans who x rest todo v said) has rests h =
         let l = cleans who x rest todo v said in
-        subst (IsRun s) (sym (now-context (Todo.clean_pair who x ∷ todo) v.at)) (run-stays s l p.context (law.rel.contexts.running e.cpu law.by.named (ap has_steps v.at)) (λ on. tt))
+        subst (IsRun later s) (sym (now-context (Todo.clean_pair who x ∷ todo) v.at)) (going s l (Todo.clean_pair who x) todo v.at refl h (λ free. tt))
     mine-run s (recycles x rest todo at few said chosen) has rests h =
         let l = recycles x rest todo at few said chosen in
-        subst (IsRun s) (sym (now-context (Todo.recycle x ∷ todo) at)) (run-stays s l p.context (law.rel.contexts.running e.cpu law.by.named (ap has_steps at)) (λ on. tt))
+        subst (IsRun later s) (sym (now-context (Todo.recycle x ∷ todo) at)) (going s l (Todo.recycle x) todo at refl h (λ free. tt))
+    mine-run s (beside t x q how chosen started) has rests h = beside-run t x q how (beside t x q how chosen started) refl h
 
     -- Each processor's thread.
-    pub running-field : (s : State) (leaves : Leaves f m e s) → HasStep f m e s leaves → RestsHoldNothing s → (k : ℕ) → k < f.cpus → runs (later.processors k) ≡ true → IsRun s (later.processors k).context
-    running-field s leaves has rests k l = by (e.cpu == k) refl
+    pub running-field : (s : State) (how : Leaves f m e s) → HasStep f m e s how → RestsHoldNothing s → (k : ℕ) → k < f.cpus → runs (later.processors k) ≡ true → IsRun later s (later.processors k).context
+    running-field s how has rests k l = by (e.cpu == k) refl
       where
-        by : (b : Bool) → (e.cpu == k) ≡ b → runs (cond b (p_next f.image (f.processors k) e) (f.processors k)) ≡ true → IsRun s (cond b (p_next f.image (f.processors k) e) (f.processors k)).context
-        by true q h = subst (λ n. runs (p_next f.image (f.processors n) e) ≡ true → IsRun s (p_next f.image (f.processors n) e).context) (eqb-true e.cpu k q) (mine-run s leaves has rests) h
+        by : (b : Bool) → (e.cpu == k) ≡ b → runs (cond b (p_next f.image (f.processors k) e) (f.processors k)) ≡ true → IsRun later s (cond b (p_next f.image (f.processors k) e) (f.processors k)).context
+        by true q h = subst (λ n. runs (p_next f.image (f.processors n) e) ≡ true → IsRun later s (p_next f.image (f.processors n) e).context) (eqb-true e.cpu k q) (mine-run s how has rests) h
         by false q h =
             let c = (f.processors k).context in
             let run = law.rel.contexts.running k l h in
-            run-stays s leaves c run
+            run-stays s how c run
             (λ on.
             let lies : runs_on c.thread (f.processors k) ≡ true = λ i. (h i && eq-eqb c.thread c.thread refl i) && not (on i) in
             let one = ap one_if lies in
-            apart-with s leaves c.thread run.index c (run.of on) refl on k l q (omega (arith, one)))
-
-  -- Parked threads.
-
-  -- what a step of the scheduler's cell puts there is no event's
-  pub apart-scheduling : (s : State) (leaves : Leaves f m e s) (q : Todo) (todo : Todos) → p.todo ≡ q ∷ todo → is_scheduling q ≡ true → (v : ℕ) → Apart f m e law s leaves s leaves v
-  apart-scheduling s leaves q todo at scheduling v = by s leaves
-    where
-      first : Todos → Bool
-      first [] = false
-      first (r ∷ rest) = is_scheduling r
-
-      other : (l : Todos) → p.todo ≡ l → first l ≡ false → ⊥
-      other l there none = true≢false (sym scheduling ∙ (ap first (sym at ∙ there) ∙ none))
-
-      by : (z : State) (l : Leaves f m e z) → Apart f m e law z l z l v
-      by _ (nothing u said) = tt
-      by _ (event r rest more x h shown is) = absurd (other (Todo.show r rest ∷ more) h.at refl)
-      by _ (resumes c told rest idle moved said) = absurd (other [] idle refl)
-      by _ (passes who x rest more h said) = absurd (other (Todo.pass who x ∷ more) h.at refl)
-      by _ (drops from x rest more h said) = absurd (other (Todo.drop x ∷ more) h.at refl)
-      by _ (cleans who x rest more h said) = tt
-      by _ (recycles x rest more at l said chosen) = tt
-
-  abbrev IsParked : State → ℕ → Context → Type 0
-  IsParked s t c = IsOf s c × (c.thread ≡ t) × (c.ended ≡ false) × IsPutBack c
-
-  parked-stays : (s : State) (leaves : Leaves f m e s) (t : ℕ) (c : Context) → parked_at (scheduler f) t ≡ Some c
-      → ((d : Context) (told : Option Told) → p.todo ≡ [] → e.moved ≡ Exchange.thread d told → d.thread ≡ t → ⊥) → IsParked s t c
-  parked-stays s leaves t c there untaken =
-      let is = law.rel.contexts.parked t c there in
-      let few = is.0.index in (
-        of-stays f m e law s leaves c is.0
-            (apart-from f m e law s leaves c.thread few c is.0 refl (rests-on c is.2)
-            (λ mine-on. true≢false (sym (ap (λ n. is_some (parked_at (scheduler f) n)) is.1 ∙ ap is_some there) ∙ running-unparked f m law.rel c.thread few e.cpu law.by.named mine-on))
-            (λ d told idle moved same. untaken d (Some told) idle moved (same ∙ is.1))),
-        is.1,
-        is.2,
-        is.3,
-      )
-
-  not-idle : (q : Todo) (todo : Todos) → p.todo ≡ q ∷ todo → p.todo ≡ [] → ⊥
-  not-idle q todo at idle = true≢false (ap has_steps (sym at ∙ idle))
-
-  some-one : {c d : Context} → Some c ≡ Some d → c ≡ d
-  some-one {c} h = ap (λ (o : Option Context). unwrap_or o c) h
-
-  -- an own part is put back
-  puts-back : (s : State) (t : ℕ) (b : Bool) (d c : Context) → IsParked s d.thread d → d.thread < THREADS → parked_at (put_back (scheduler f) b d) t ≡ Some c
-      → ((c : Context) → parked_at (scheduler f) t ≡ Some c → IsParked s t c) → IsParked s t c
-  puts-back s t b d c is few there old = which (t == d.thread) refl
-    where
-      which : (v : Bool) → (t == d.thread) ≡ v → IsParked s t c
-      which true same =
-          let equal = eqb-true t d.thread same in
-          let long = law.rel.scheduler.parked in
-          let here = get_or-set_at (scheduler f).parked d.thread t (Some d) None equal (omega (arith, few, long, equal)) in
-          let one : d ≡ c = some-one (sym here ∙ there) in
-          subst (IsParked s t) one (is.0, sym equal, is.2, is.3)
-      which false other = old c (sym (get_or-set_other (scheduler f).parked d.thread t (Some d) None (eqb-false t d.thread other)) ∙ there)
-
-  pub parked-field : AreProper m.image m → (s : State) (leaves : Leaves f m e s) (t : ℕ) (c : Context) → parked_at (scheduler later) t ≡ Some c → IsParked s t c
-  parked-field proper s leaves t c there = by p.todo refl
-    where
-      old : (q : Todo) (todo : Todos) → p.todo ≡ q ∷ todo → (c : Context) → parked_at (scheduler f) t ≡ Some c → IsParked s t c
-      old q todo at c there = parked-stays s leaves t c there (λ d told idle. absurd (not-idle q todo at idle))
-
-      taken : p.todo ≡ [] → IsParked s t c
-      taken at = which (t == first.thread) refl
-        where
-          first : IsTaken f e
-          first = takes-first f m e law at
-
-          stands : slice_index_or (slice_set (scheduler f).parked first.thread None) t None ≡ Some c
-          stands = sym (ap (λ (z : Scheduler). parked_at z t) first.after) ∙ there
-
-          thread_in : Exchange → ℕ
-          thread_in (Exchange.thread d w) = d.thread
-          thread_in moved = 0
-
-          which : (b : Bool) → (t == first.thread) ≡ b → IsParked s t c
-          which true same =
-              absurd (false≢true (ap is_some (sym (subst (λ n. slice_index_or (slice_set (scheduler f).parked first.thread None) n None ≡ None) (sym (eqb-true t first.thread same)) (set-none (scheduler f).parked first.thread)) ∙ stands)))
-          which false other =
-              let apart = eqb-false t first.thread other in
-              parked-stays s leaves t c (sym (get_or-set_other (scheduler f).parked first.thread t None None apart) ∙ stands)
-              (λ d told idle moved same. apart (sym same ∙ (ap thread_in (sym moved ∙ first.moved) ∙ first.same)))
-
-      parks : (todo : Todos) → p.todo ≡ Todo.park ∷ todo → IsParked s t c
-      parks todo at =
-          puts-back s t (ready_in e.act) p.context c (of-stays f m e law s leaves p.context of (apart-scheduling s leaves Todo.park todo at refl p.context.thread), refl, lives, fits.0) of.index
-          (sym (ap (λ (z : Scheduler). parked_at z t) (parks-after f m e law todo at)) ∙ there) (old Todo.park todo at)
-        where
-          fits : IsPutBack p.context × (is_over p.context ≡ false) × (todo ≡ [])
-          fits = subst (Fits f.image p.context) at (law.rel.processors e.cpu law.by.named).list.fits
-
-          of : IsOf m p.context
-          of = (law.rel.contexts.running e.cpu law.by.named (ap has_steps at)).of fits.1
-
-          -- one that has ended has no step to wait for, so it would be over
-          lives : p.context.ended ≡ false
-          lives = by-life p.context.ended refl
-            where
-              pending : p.context.pending ≡ (thread_at m p.context.thread).pending
-              pending = ap (λ (th : Thread). th.pending) of.own
-
-              closing : p.context.ended ≡ true → IsPutBack p.context → p.context.pending ≡ []
-              closing e (inl none) = none
-              closing e (inr waits-it) =
-                  absurd (waiting p.context.pending waits-it (subst Closing (sym pending) ((proper p.context.thread).1 (dead (thread_at m p.context.thread).life (sym of.ended ∙ e))).1))
-                where
-                  dead : (life : Life) → is_ended life ≡ true → is_living life ≡ false
-                  dead Life.Unborn h = refl
-                  dead Life.Living h = absurd (false≢true h)
-                  dead Life.Ended h = refl
-
-                  waiting : (steps : Steps) → IsTrue (waits steps) → Closing steps → ⊥
-                  waiting (Pending.Resume ∷ rest) h closing = closing
-                  waiting steps h closing = absurd (false≢true h)
-
-              by-life : (b : Bool) → p.context.ended ≡ b → b ≡ false
-              by-life false e = refl
-              by-life true e = absurd (true≢false (sym (λ i. e i && is_empty (closing e fits.0 i)) ∙ fits.1))
-
-      adds : (d : Context) (todo : Todos) → p.todo ≡ Todo.add d ∷ todo → IsParked s t c
-      adds d todo at =
-          let new = law.rel.contexts.added e.cpu d law.by.named (subst (Adds d) (sym at) (inl refl)) in
-          let act = FineAct.Unseen (Unseen.Add (to_thread d.thread)) in
-          let after = sched-later f m e law (made-at f m e law (Todo.add d ∷ todo) at) act (made-says f m e law (Todo.add d ∷ todo) at)
-          ∙ ap (λ (mv : Exchange). put_back (scheduler f) true (context_in mv)) (made-moves f m e law (Todo.add d ∷ todo) at) in
-          puts-back s t true d c (of-stays f m e law s leaves d new.0 (apart-scheduling s leaves (Todo.add d) todo at refl d.thread), refl, new.1, inl new.2) new.0.index
-          (sym (ap (λ (z : Scheduler). parked_at z t) after) ∙ there) (old (Todo.add d) todo at)
-
-      by : (todo : Todos) → p.todo ≡ todo → IsParked s t c
-      by [] at = taken at
-      by (Todo.park ∷ todo) at = parks todo at
-      by (Todo.add d ∷ todo) at = adds d todo at
-      by (Todo.wake who told ∷ todo) at =
-          old (Todo.wake who told) todo at c
-          (sym (ap (λ (z : Scheduler). parked_at z t) (sched-later f m e law (made-at f m e law (Todo.wake who told ∷ todo) at) _ (made-says f m e law (Todo.wake who told ∷ todo) at))) ∙ there)
-      by (Todo.done ∷ todo) at =
-          old Todo.done todo at c (sym (ap (λ (z : Scheduler). parked_at z t) (sched-later f m e law (made-at f m e law (Todo.done ∷ todo) at) _ (made-says f m e law (Todo.done ∷ todo) at))) ∙ there)
-      by (q ∷ todo) at =
-          old q todo at c
-          (sym (ap (λ (z : Scheduler). parked_at z t) (sched-else f m e law (ap (λ i. same_site i Site.scheduler) (made-at f m e law (q ∷ todo) at) ∙ todo-elsewhere f.image p q todo refl))) ∙ there)
-
-  -- New threads that are still to be added.
-
-  abbrev IsAdded : State → Context → Type 0
-  IsAdded s c = IsOf s c × (c.ended ≡ false) × (c.pending ≡ [])
-
-  module _ (lawful : IsLawful m.image) (suits : Suits f m) (all : InDomains f m) where
-    new-part : (x : ℕ) (who : ThreadIx) (script : ℕ) (stack : Row) (priority : ℤ) (mode : Mode) (rest : Steps) (todo : Todos)
-        → Shows f m e.cpu e (Pending.Start who script stack priority mode) rest todo
-        → IsAdded (T.after m p.context.thread x (Pending.Start who script stack priority mode) rest) (newborn f.image p.context (Pending.Start who script stack priority mode))
-    new-part x who script stack priority mode rest todo h =
-        let q = Pending.Start who script stack priority mode in
-        let t = p.context.thread in
-        let me = thread_at m t in
-        let child = T.newborn m me who.0 script q in
-        let s = with_thread m who.0 child in
-        let few = starts-below m law.sound lawful t who script stack priority mode rest (shown-offers h) in
-        let many = law.sound.wide.threads in
-        let other = starts-another f m e law suits all rest todo who script stack priority mode h in
-        let now : thread_at (T.after m t x q rest) who.0 ≡ child =
-        set-else s.threads t who.0 (T.at_steps s.image (record (thread_at s t) { child = None }) rest) (λ same. other (sym same)) ∙ at-here m.threads who.0 child (omega (arith, few, many)) in
-        let pool : p.context.pool ≡ me.pool = ap (λ (th : Thread). th.pool) (own-part h).own in (
-          record {
-            index = few;
-            own = (λ i. as_thread (newborn (sym law.rel.image i) (record p.context { pool = pool i }) q)) ∙ ap own_part (sym now);
-            claims = ap (λ (th : Thread). th.checked) now;
-            ended = ap (λ (th : Thread). is_ended th.life) (sym now);
-            started = subst (λ (th : Thread). IsTrue (is_started th.life)) (sym now) refl;
-            below = refl;
-          },
-          refl,
-          refl,
-        )
-
-    added-stays : (s : State) (leaves : Leaves f m e s) (k : ℕ) (c : Context) → k < f.cpus → (is : IsAdded m c)
-        → (runs_on c.thread p ≡ true → ⊥) → ((d : Context) (told : Told) → p.todo ≡ [] → e.moved ≡ Exchange.thread d (Some told) → d.thread ≡ c.thread → ⊥) → IsAdded s c
-    added-stays s leaves k c l is alone untaken =
-        (of-stays f m e law s leaves c is.0 (apart-from f m e law s leaves c.thread is.0.index c is.0 refl (rests-on c is.1) alone untaken), is.1, is.2)
-
-    -- on the maker's list
-    mine-stays : (s : State) (leaves : Leaves f m e s) (q : Todo) (todo : Todos) → p.todo ≡ q ∷ todo → (c : Context) → Adds c (q ∷ todo) → IsAdded s c
-    mine-stays s leaves q todo at c adds =
-        let here = subst (Adds c) (sym at) adds in
-        let is = law.rel.contexts.added e.cpu c law.by.named here in
-        added-stays s leaves e.cpu c law.by.named is
-        (λ mine-on.
-        let count = adds-count c p.todo here in
-        let one = ap one_if mine-on in
-        let most = lies-here f m law.rel c.thread is.0.index e.cpu law.by.named in
-        omega (arith, count, one, most))
-        (λ d told idle. absurd (not-idle q todo at idle))
-
-    abbrev starts-none : Pending → Type 0
-    starts-none (Pending.Start who script stack priority mode) = ⊥
-    starts-none q = Unit {0}
-
-    bare-adds : (c : Context) (q : Pending) (todo : Todos) → todo ≡ behind_shown f.image p.context q → starts-none q → Adds c todo → ⊥
-    bare-adds c q todo behind none adds = by q none (subst (Adds c) behind adds)
-      where
-        by : (q : Pending) → starts-none q → Adds c (behind_shown f.image p.context q) → ⊥
-        by (Pending.Start who script stack priority mode) none h = none
-        by q none h = h
-
-    shown-adds : (x : ℕ) (q : Pending) (rest : Steps) (todo : Todos) → Shows f m e.cpu e q rest todo → (c : Context) → Adds c todo → IsAdded (T.after m p.context.thread x q rest) c
-    shown-adds x (Pending.Start who script stack priority mode) rest todo h c adds = by (subst (Adds c) (behind-is h) adds)
-      where
-        by : Adds c (behind_shown f.image p.context (Pending.Start who script stack priority mode)) → IsAdded (T.after m p.context.thread x (Pending.Start who script stack priority mode) rest) c
-        by (inl same) = subst (IsAdded (T.after m p.context.thread x (Pending.Start who script stack priority mode) rest)) (sym same) (new-part x who script stack priority mode rest todo h)
-        by (inr none) = absurd none
-    shown-adds x q rest todo h c adds = absurd (bare-adds c q todo (behind-is h) tt adds)
-
-    mine-added : (s : State) (leaves : Leaves f m e s) (c : Context) → Adds c now.todo → IsAdded s c
-    mine-added s leaves c adds = by p.todo refl
-      where
-        behind : (q : Todo) (todo : Todos) → p.todo ≡ q ∷ todo → ReadsLast e q todo → Adds c todo
-        behind q todo at last = next-adds f.image p e q todo c at ((subst (AreFramed f.image) at (law.rel.processors e.cpu law.by.named).frames).0) last adds
-
-        shows-last : (q : Pending) (rest : Steps) (todo : Todos) → p.todo ≡ Todo.show q rest ∷ todo → is_word_read e.act ≡ true → todo ≡ []
-        shows-last q rest todo at read =
-            (subst (Fits f.image p.context) at (law.rel.processors e.cpu law.by.named).list.fits).1 ∙ read-rests f.image p p.context q e.act (made-says f m e law (Todo.show q rest ∷ todo) at) read
-
-        shown : (q : Pending) (rest : Steps) (todo : Todos) → p.todo ≡ Todo.show q rest ∷ todo → IsAdded s c
-        shown q rest todo at = by-leaves s leaves
-          where
-            list : Adds c todo
-            list = behind (Todo.show q rest) todo at (shows-last q rest todo at)
-
-            by-leaves : (z : State) → Leaves f m e z → IsAdded z c
-            by-leaves _ (nothing u said) = absurd (subst (Adds c) (shows-last q rest todo at (read-only q (made-says f m e law (Todo.show q rest ∷ todo) at) (ap is_shown said))) list)
-            by-leaves _ (event r more later-todo x h shown is) = shown-adds x r more later-todo h c (subst (Adds c) (ap behind_first (sym at ∙ h.at)) list)
-            by-leaves _ (resumes d told more idle moved said) = absurd (not-idle (Todo.show q rest) todo at idle)
-            by-leaves _ (passes who x more l h said) = absurd (true≢false (ap shows_first (sym at ∙ h.at)))
-            by-leaves _ (drops from x more l h said) = absurd (true≢false (ap shows_first (sym at ∙ h.at)))
-            by-leaves _ (cleans who x more l h said) = absurd (true≢false (ap shows_first (sym at ∙ h.at)))
-            by-leaves _ (recycles x more l there few said chosen) = absurd (true≢false (ap shows_first (sym at ∙ there)))
-
-        by : (todo : Todos) → p.todo ≡ todo → IsAdded s c
-        by [] at = absurd (takes-none f.image p e c at adds)
-        by (Todo.show q rest ∷ todo) at = shown q rest todo at
-        by (Todo.add d ∷ todo) at = mine-stays s leaves (Todo.add d) todo at c (inr (behind (Todo.add d) todo at tt))
-        by (q ∷ todo) at = mine-stays s leaves q todo at c (behind q todo at tt)
-
-    pub added-field : (s : State) (leaves : Leaves f m e s) (k : ℕ) (c : Context) → k < f.cpus → Adds c (later.processors k).todo → IsAdded s c
-    added-field s leaves k c l = by (e.cpu == k) refl
-      where
-        by : (b : Bool) → (e.cpu == k) ≡ b → Adds c (cond b (p_next f.image (f.processors k) e) (f.processors k)).todo → IsAdded s c
-        by true q h = subst (λ n. Adds c (p_next f.image (f.processors n) e).todo → IsAdded s c) (eqb-true e.cpu k q) (mine-added s leaves c) h
-        by false q h =
-            let is = law.rel.contexts.added k c l h in
-            let few = is.0.index in
-            let count = adds-count c (f.processors k).todo h in
-            added-stays s leaves k c l is
-            (λ mine-on. lies-once f m law.rel c.thread few e.cpu k law.by.named l (eqb-false e.cpu k q) (makes-part c.thread mine-on) (omega (arith, count)))
-            (λ d told idle moved same.
-            let parked = taken-parked f m e law idle d (Some told) moved in
-            let there : is_some (parked_at (scheduler f) c.thread) ≡ true = ap (λ n. is_some (parked_at (scheduler f) n)) (sym same) ∙ ap is_some parked in
-            true≢false (sym there ∙ lies-unparked f m law.rel c.thread few k l (omega (arith, count))))
+            part-with s how c.thread run.index c (run.of on) refl on k l q (omega (arith, one)))

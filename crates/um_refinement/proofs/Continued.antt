@@ -11,6 +11,7 @@ held_of c = (c.thread, c.claims, c.ended)
 -- the steps that change nothing of that
 abbrev pub KeepsHeld : Pending → Type 0
 KeepsHeld Pending.Exit = ⊥
+KeepsHeld Pending.Killed = ⊥
 KeepsHeld (Pending.Check a kind want refusal) = ⊥
 KeepsHeld (Pending.Answer reply to) = ⊥
 KeepsHeld (Pending.Fatal reason cause) = ⊥
@@ -48,6 +49,7 @@ module _ (image : Image) where
 
   pub continues-held : (c : Context) (x : ℕ) (q : Pending) (rest : Steps) (act : Act) (moved : Exchange) → KeepsHeld q → held_of (continues image c x q rest act moved) ≡ held_of c
   continues-held c x Pending.Exit rest act moved h = absurd h
+  continues-held c x Pending.Killed rest act moved h = absurd h
   continues-held c x (Pending.Check a kind want refusal) rest act moved h = absurd h
   continues-held c x (Pending.Answer reply to) rest act moved h = absurd h
   continues-held c x (Pending.Fatal reason cause) rest act moved h = absurd h
@@ -57,6 +59,7 @@ module _ (image : Image) where
   -- it stays the same thread
   pub continues-thread : (c : Context) (x : ℕ) (q : Pending) (rest : Steps) (act : Act) (moved : Exchange) → (continues image c x q rest act moved).thread ≡ c.thread
   continues-thread c x Pending.Exit rest act moved = refl
+  continues-thread c x Pending.Killed rest act moved = refl
   continues-thread c x (Pending.Check a kind want refusal) rest act moved = (claim-held (row_named image a) (verdict_in act) c).0
   continues-thread c x (Pending.Answer reply to) rest act moved = refl
   continues-thread c x (Pending.Fatal reason cause) rest act moved = refl

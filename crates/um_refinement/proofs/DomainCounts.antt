@@ -1,15 +1,18 @@
 -- The word of a domain counts the claims of processors to read it, and who edits it, after every lawful step.
-use Rattle.um_refinement.proofs.Words.{◌≡◌, inl, inr, ℕ, ◌+◌, ◌-◌, ◌<◌, Bool, true, false, [], ◌∷◌, Option, Some, None, refl, sym, ap, ◌∙◌, subst, arith, eq-eqb, ◌==◌, ◌&&◌, ◌||◌, not, if◌then◌else◌, nat_lt, list_any, and_parts, eqb-true, false≢true, ltb-true, not-true, true≢false, row_at, Errno, Reply, Pending, Steps, State, DomWord, FineAct, Unseen, domain_in, begins_cleaning, check_site, says, site_of_step, after_claim, goes_on_by, unless_loaded, Todo, Todos, Processor, fails, is_of, key_of, same_site, FineStep, Site, reads, Fine, domain, one_if, over_processors, Behind, access_over, edits, edits_step, is_hold, moves_step, moves_to, Fits, behind_shown, or-false, counted_domain, domain_after, domain_takes, is_move_done, length}
+use Rattle.um_refinement.proofs.Words.{◌≡◌, inl, inr, ℕ, ◌+◌, ◌-◌, ◌<◌, Bool, true, false, [], ◌∷◌, Option, Some, None, refl, sym, ap, ◌∙◌, subst, arith, eq-eqb, ◌==◌, ◌&&◌, ◌||◌, not, if◌then◌else◌, nat_lt, list_any, and_parts, eqb-true, false≢true, ltb-true, not-true, true≢false, row_at, Errno, Reply, Pending, Steps, State, DomWord, FineAct, Unseen, domain_in, begins_cleaning, check_site, says, site_of_step, after_claim, goes_on_by, unless_loaded, Todo, Todos, Processor, fails, is_of, key_of, same_site, FineStep, Site, reads, Fine, domain, one_if, over_processors, Behind, OnMemory, access_over, edits, edits_step, is_hold, moves_step, moves_to, Fits, behind_shown, or-false, counted_domain, domain_after, domain_takes, is_move_done, length}
+use Rattle.um_fine.specs.Answers.{is_due_act, is_tick}
+use Rattle.um_refinement.specs.Frames.{IsWaitOver, both, nothing, rereads, settled}
 use Rattle.um_refinement.proofs.Erased.{around, later}
 use Rattle.um_refinement.proofs.Leaves.{Lawful}
 use Rattle.um_refinement.proofs.ListGrips.{read-rests}
 use Rattle.um_refinement.proofs.ListGrowth.{ReadsLast, is_read_claim}
-use Rattle.um_refinement.proofs.ListTails.{exact-next, tail-read, takes-read}
+use Rattle.um_refinement.proofs.ListTails.{adds-pass, quiet-next, tail-read, takes-read}
 use Rattle.um_refinement.proofs.SchedulerSteps.{made-at, made-says}
-use Rattle.um_refinement.proofs.StepReads.{is-behind}
+use Rattle.um_refinement.proofs.StepReads.{is-behind, is-placed}
+use Rattle.um_refinement.proofs.TableReads.{over-unclaimed}
 use Rattle.um_refinement.proofs.Sums.{over-changed, over-same}
 use Rattle.um_refinement.proofs.DomainWords.{word-else, word-here, word-takes}
-use Rattle.um_refinement.proofs.DomainReads.{claimed, claimed-reads, edits-behind, edits-no-move, edits-one, edits-reads, either-claimed, either-edits, either-moves, eqb-swap, is_plain, is_told, memory-moves-none, moves-behind, moves-reads, next-domain, next-reply, plain-claim, plain-last, plain-list, plain-site}
+use Rattle.um_refinement.proofs.DomainReads.{claimed, claimed-reads, over-claimed, edits-behind, edits-no-move, edits-one, edits-reads, either-claimed, either-edits, either-moves, eqb-swap, is_plain, is_told, memory-moves-none, moves-behind, moves-reads, next-domain, next-reply, plain-claim, plain-last, plain-list, plain-site}
 
 abbrev is_end_call_act : Unseen → Bool
 is_end_call_act Unseen.EndCall = true
@@ -151,15 +154,16 @@ module _ (f : Fine) (m : State) (e : FineStep) (law : Lawful f m e) (d : ℕ) (f
 
   -- where it makes any step but a claim to read, its list is read as what stands behind that step
   edits-after : (q : Todo) (todo : Todos) → p.todo ≡ q ∷ todo → is_read_claim q ≡ false → ReadsLast e q todo → edits d now.todo ≡ edits d todo
-  edits-after q todo at other last = tail-read f.image (edits d) false (edits-reads f.image d) p e q todo at other (frame q todo at) last
+  edits-after q todo at other last = tail-read f.image (edits d) false (edits-reads f.image d) p e q todo at other (adds-pass f.image (edits d) false (edits-reads f.image d) (λ c z. refl) q) (frame q todo at) last
 
   claimed-after : (q : Todo) (todo : Todos) → p.todo ≡ q ∷ todo → is_read_claim q ≡ false → ReadsLast e q todo → claimed now.todo ≡ claimed todo
-  claimed-after q todo at other last = tail-read f.image claimed false (claimed-reads f.image) p e q todo at other (frame q todo at) last
+  claimed-after q todo at other last = tail-read f.image claimed false (claimed-reads f.image) p e q todo at other (adds-pass f.image claimed false (claimed-reads f.image) (λ c z. refl) q) (frame q todo at) last
 
   moves-after : (q : Todo) (todo : Todos) → p.todo ≡ q ∷ todo → is_read_claim q ≡ false → is_told q ≡ false → ReadsLast e q todo → moves_to d now.reply now.todo ≡ moves_to d p.reply todo
   moves-after q todo at other quiet last =
       ap (λ r. moves_to d r now.todo) (next-reply f.image p e q todo at quiet)
-      ∙ tail-read f.image (moves_to d p.reply) false (moves-reads f.image d p.reply) p e q todo at other (frame q todo at) last
+      ∙ tail-read f.image (moves_to d p.reply) false (moves-reads f.image d p.reply) p e q todo at other
+      (adds-pass f.image (moves_to d p.reply) false (moves-reads f.image d p.reply) (λ c z. refl) q) (frame q todo at) last
 
   plain-told : (q : Todo) → is_plain q ≡ true → is_told q ≡ false
   plain-told (Todo.read_claim (Some u)) h = absurd (false≢true h)
@@ -176,7 +180,7 @@ module _ (f : Fine) (m : State) (e : FineStep) (law : Lawful f m e) (d : ℕ) (f
       let list = plain-list d p.reply q todo plain in
       let other = plain-claim q plain in
       let last = plain-last e q todo plain in
-      still (word-else f m e law d (ap (λ i. same_site i (Site.domain d)) (made-at f m e law (q ∷ todo) at) ∙ plain-site f.image p d q todo plain))
+      still (word-else f m e law d (ap (λ i. same_site i (Site.domain d)) (made-at f m e law (q ∷ todo) at) ∙ plain-site f.image p d q todo plain (is-placed f m e law q todo at)))
       (edits-after q todo at other last ∙ (sym list.0 ∙ sym (ap (edits d) at)))
       (λ i.
       ((claimed-after q todo at other last ∙ (sym list.1 ∙ sym (ap claimed at))) i && (next-domain f.image p e q todo at (plain-hold q plain) i == d))
@@ -184,10 +188,14 @@ module _ (f : Fine) (m : State) (e : FineStep) (law : Lawful f m e) (d : ℕ) (f
 
   idle-step : p.todo ≡ [] → CountsAre (later f e) d
   idle-step at =
-      still (word-else f m e law d (ap (λ i. same_site i (Site.domain d)) (made-at f m e law [] at)))
+      still (word-else f m e law d (ap (λ i. same_site i (Site.domain d)) (made-at f m e law [] at) ∙ apart (is_due_act e.act || is_tick e.act)))
       (takes-read f.image (edits d) false (edits-reads f.image d) p e at ∙ sym (ap (edits d) at))
       (read-as now false false (takes-read f.image claimed false (claimed-reads f.image) p e at) (takes-read f.image (moves_to d now.reply) false (moves-reads f.image d now.reply) p e at)
       ∙ sym (read-as p false false (ap claimed at) (ap (moves_to d p.reply) at)))
+    where
+      apart : (b : Bool) → same_site (if b then Site.clock else Site.scheduler) (Site.domain d) ≡ false
+      apart true = refl
+      apart false = refl
 
   hold-step : (todo : Todos) → p.todo ≡ Todo.hold ∷ todo → CountsAre (later f e) d
   hold-step todo at =
@@ -197,8 +205,8 @@ module _ (f : Fine) (m : State) (e : FineStep) (law : Lawful f m e) (d : ℕ) (f
       ∙ sym (read-as p false (moves_to d p.reply todo) (ap claimed at ∙ free (frame Todo.hold todo at)) (ap (moves_to d p.reply) at)))
     where
       free : Behind f.image Todo.hold todo → claimed todo ≡ false
-      free (inl h) = ap claimed h.2
-      free (inr h) = ap claimed h.3
+      free (inl h) = ap claimed (h.1 ∙ ap (λ (z : Todos). Todo.read_claim None ∷ Todo.region_load ∷ z) h.2.3)
+      free (inr h) = ap claimed (h.2 ∙ ap (λ (z : Todos). Todo.unshut h.0 ∷ z) h.3.3)
 
   -- an event
   module _ (q : Pending) (rest : Steps) (todo : Todos) (at : p.todo ≡ Todo.show q rest ∷ todo) where
@@ -276,7 +284,7 @@ module _ (f : Fine) (m : State) (e : FineStep) (law : Lawful f m e) (d : ℕ) (f
   -- claims and their ends
 
   quietly : (todo : Todos) (u : Unseen) → p.todo ≡ todo → e.act ≡ FineAct.Unseen u → is_end_call_act u ≡ false → now ≡ goes_on_by f.image p e todo
-  quietly todo u at is quiet = exact-next f.image p e todo at (ap (λ a. begins_cleaning (record e { act = a })) is ∙ none u quiet)
+  quietly todo u at is quiet = quiet-next f.image p e todo u at is (none u quiet)
     where
       none : (u : Unseen) → is_end_call_act u ≡ false → begins_cleaning (record e { act = FineAct.Unseen u }) ≡ false
       none Unseen.EndCall h = absurd (true≢false h)
@@ -289,15 +297,27 @@ module _ (f : Fine) (m : State) (e : FineStep) (law : Lawful f m e) (d : ℕ) (f
   own-claim : (todo : Todos) → p.todo ≡ Todo.read_claim None ∷ todo → CountsAre (later f e) d
   own-claim todo at =
       reader-more p.domain (made-at f m e law (Todo.read_claim None ∷ todo) at) is
-      (ap (λ (z : Processor). edits d z.todo) exact ∙ (ap (λ (z : Todos). edits d (unless_loaded b z)) h.2 ∙ (either-edits d b h.0 h.1 ∙ sym (ap (edits d) (at ∙ list)))))
-      (read-as p false false (ap claimed (at ∙ list)) (ap (moves_to d p.reply) (at ∙ list) ∙ memory-moves-none d p.reply h.0 h.3))
-      (read-as now true false (ap (λ (z : Processor). claimed z.todo) exact ∙ (ap (λ (z : Todos). claimed (unless_loaded b z)) h.2 ∙ either-claimed b h.0 h.1))
+      (ap (λ (z : Processor). edits d z.todo) exact ∙ (ap (λ (z : Todos). edits d (unless_loaded b z)) there ∙ (either-edits d b q rest over ∙ sym (ap (edits d) (at ∙ list)))))
+      (read-as p false false (ap claimed (at ∙ list)) (ap (moves_to d p.reply) (at ∙ list) ∙ memory-moves-none d p.reply q on))
+      (read-as now true false (ap (λ (z : Processor). claimed z.todo) exact ∙ (ap (λ (z : Todos). claimed (unless_loaded b z)) there ∙ either-claimed b q rest over h.2.5))
       (ap (λ (z : Processor). moves_to d z.reply z.todo) exact
-      ∙ (ap (λ (z : Todos). moves_to d p.reply (unless_loaded b z)) h.2 ∙ (either-moves d p.reply b h.0 h.1 ∙ memory-moves-none d p.reply h.0 h.3)))
+      ∙ (ap (λ (z : Todos). moves_to d p.reply (unless_loaded b z)) there ∙ (either-moves d p.reply b q rest over ∙ memory-moves-none d p.reply q on)))
       ∙ (or-false (now.domain == d) ∙ ap (λ n. n == d) (next-domain f.image p e (Todo.read_claim None) todo at refl)))
     where
       h : Behind f.image (Todo.read_claim None) todo
       h = frame (Todo.read_claim None) todo at
+
+      q : Pending
+      q = h.2.0
+
+      rest : Steps
+      rest = h.2.1
+
+      over : Todos
+      over = h.2.2
+
+      on : OnMemory q
+      on = h.2.4
 
       is : e.act ≡ FineAct.Unseen Unseen.ReadClaim
       is = said (Todo.read_claim None ∷ todo) at
@@ -305,21 +325,31 @@ module _ (f : Fine) (m : State) (e : FineStep) (law : Lawful f m e) (d : ℕ) (f
       exact : now ≡ goes_on_by f.image p e (Todo.read_claim None ∷ todo)
       exact = quietly (Todo.read_claim None ∷ todo) Unseen.ReadClaim at is refl
 
-      list : Todo.read_claim None ∷ todo ≡ Todo.read_claim None ∷ Todo.region_load ∷ Todo.show h.0 h.1 ∷ access_over
-      list = ap (λ (z : Todos). Todo.read_claim None ∷ z) h.2
+      there : todo ≡ Todo.region_load ∷ Todo.show q rest ∷ access_over over
+      there = h.1 ∙ ap (λ (z : Todos). Todo.region_load ∷ z) h.2.3
+
+      list : Todo.read_claim None ∷ todo ≡ Todo.read_claim None ∷ Todo.region_load ∷ Todo.show q rest ∷ access_over over
+      list = ap (λ (z : Todos). Todo.read_claim None ∷ z) there
+
+  over-moves : (reply : Reply) (over : Todos) → IsWaitOver over → moves_to d reply over ≡ false
+  over-moves reply _ nothing = refl
+  over-moves reply _ settled = refl
+  over-moves reply _ rereads = refl
+  over-moves reply _ both = refl
 
   own-done : (todo : Todos) → p.todo ≡ Todo.read_done None ∷ todo → CountsAre (later f e) d
   own-done todo at =
       reader-less p.domain (FineAct.Unseen Unseen.ReadDone) (made-at f m e law (Todo.read_done None ∷ todo) at) (said (Todo.read_done None ∷ todo) at) (λ w. refl) (λ w h. ltb-true 0 w.readers h)
       (edits-after (Todo.read_done None) todo at refl tt ∙ sym (ap (edits d) at))
-      (read-as p true false (ap claimed (at ∙ list)) (ap (moves_to d p.reply) (at ∙ list)) ∙ or-false (p.domain == d))
-      (read-as now false false (claimed-after (Todo.read_done None) todo at refl tt ∙ ap claimed h) (moves-after (Todo.read_done None) todo at refl refl tt ∙ ap (moves_to d p.reply) h))
+      (read-as p true false (ap claimed (at ∙ list) ∙ ap not (over-claimed h.0 h.2)) (ap (moves_to d p.reply) (at ∙ list) ∙ over-moves p.reply h.0 h.2) ∙ or-false (p.domain == d))
+      (read-as now false false (claimed-after (Todo.read_done None) todo at refl tt ∙ (ap claimed h.1 ∙ over-unclaimed h.0 h.2))
+      (moves-after (Todo.read_done None) todo at refl refl tt ∙ (ap (moves_to d p.reply) h.1 ∙ over-moves p.reply h.0 h.2)))
     where
-      h : todo ≡ Todo.let_go ∷ []
+      h : Behind f.image (Todo.read_done None) todo
       h = frame (Todo.read_done None) todo at
 
-      list : Todo.read_done None ∷ todo ≡ Todo.read_done None ∷ Todo.let_go ∷ []
-      list = ap (λ (z : Todos). Todo.read_done None ∷ z) h
+      list : Todo.read_done None ∷ todo ≡ Todo.read_done None ∷ Todo.let_go ∷ h.0
+      list = ap (λ (z : Todos). Todo.read_done None ∷ z) h.1
 
   move-claim : (u : ℕ) (todo : Todos) → p.todo ≡ Todo.read_claim (Some u) ∷ todo → CountsAre (later f e) d
   move-claim u todo at =
@@ -384,7 +414,7 @@ module _ (f : Fine) (m : State) (e : FineStep) (law : Lawful f m e) (d : ℕ) (f
       still (word-else f m e law d (ap (λ i. same_site i (Site.domain d)) (made-at f m e law (Todo.edit u q ∷ todo) at)))
       (edits-after (Todo.edit u q) todo at refl tt ∙ (ap (edits d) h.1 ∙ (edits-one d u q h.2 ∙ sym (ap (edits d) at))))
       (read-as now false false (claimed-after (Todo.edit u q) todo at refl tt ∙ ap claimed h.1)
-      (tail-read f.image (moves_to d now.reply) false (moves-reads f.image d now.reply) p e (Todo.edit u q) todo at refl (frame (Todo.edit u q) todo at) tt
+      (tail-read f.image (moves_to d now.reply) false (moves-reads f.image d now.reply) p e (Todo.edit u q) todo at refl tt (frame (Todo.edit u q) todo at) tt
       ∙ (ap (moves_to d now.reply) h.1 ∙ edits-no-move d u now.reply q h.2))
       ∙ sym (read-as p false false (ap claimed list) (ap (moves_to d p.reply) list ∙ edits-no-move d u p.reply q h.2)))
     where

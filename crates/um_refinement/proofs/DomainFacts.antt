@@ -13,7 +13,7 @@ NoDomains domains = false
 NoDomains part = true
 
 pub domains-same : (m : State) (t x : ℕ) (q : Pending) (rest : Steps) → Makes NoDomains q → (T.after m t x q rest).domains ≡ m.domains
-domains-same m = read-same NoDomains (λ s. s.domains) m (reads-keeping NoDomains (λ s. s.domains) m.domains (λ s threads. refl) (λ s objects. refl) (λ s bytes. (refl, refl)) (λ may s u x there. refl) (λ may s left. refl) (λ may s d ps. absurd may))
+domains-same m = read-same NoDomains (λ s. s.domains) m (reads-keeping NoDomains (λ s. s.domains) m.domains (λ s threads. refl) (λ s objects. refl) (λ s bytes. (refl, refl)) (λ may s u x there. refl) (λ may s left. refl) (λ may s d ps. absurd may) (λ may s joins futexes. refl) (λ may s now armed. refl))
 
 -- what an edit makes of a domain leaves it initialised, and initialises it where it replies so
 pub some-stays : (ps : Partitions) (made : Result Partitions Errno) → is_some (domain_after (Some ps) made) ≡ true

@@ -1,20 +1,24 @@
 -- The words and cells of domains are those of the machine after every lawful step, where an edit counts from its event.
-use Rattle.um_refinement.proofs.Words.{◌≡◌, ◌⊎◌, inl, inr, ℕ, ◌<◌, ◌≤◌, Bool, true, false, cond, List, [], ◌∷◌, length, Option, Some, None, refl, sym, ap, ◌∙◌, subst, arith, eq-eqb, ◌==◌, ◌||◌, IsTrue, if◌then◌else◌, is_some, slice_index_or, slice_set, unwrap_or, eqb-false, eqb-true, false≢true, true≢false, get_or-set_other, get_or-set_same, Event, Image, Partitions, Pending, reply_to, Steps, to_thread, State, DomWord, FineAct, More, Unseen, act_in, domain_in, is_visit, is_word_read, allows, begins_cleaning, moves, says_idle, says_show, says_step, shows, Cell, Context, after_claim, goes_on_by, p_next, unless_loaded, Todo, Todos, Processor, edit_of, is_of, key_of, SiteState, is_sort, s_next, same_site, site_after, site_moves, Exchange, FineStep, Site, same-itself, same-sound, Fine, domain, domain_state, one_if, parts, parts_state, total, Behind, OnMemory, access_over, edited, edits, edits_step, Fits, behind_shown, or-false, before_in, parts_after, parts_moves, DomainIs}
+use Rattle.um_refinement.proofs.Words.{Act, ◌≡◌, ◌⊎◌, inl, inr, ℕ, ◌<◌, ◌≤◌, Bool, true, false, cond, List, [], ◌∷◌, length, Option, Some, None, refl, sym, ap, ◌∙◌, subst, arith, eq-eqb, ◌==◌, ◌||◌, IsTrue, if◌then◌else◌, is_some, slice_index_or, slice_set, unwrap_or, eqb-false, eqb-true, false≢true, true≢false, get_or-set_other, get_or-set_same, Event, Image, Partitions, Pending, reply_to, Steps, to_thread, State, DomWord, FineAct, More, Unseen, act_in, domain_in, is_visit, is_word_read, allows, moves, says_show, says_step, Cell, Context, after_claim, goes_on_by, p_next, unless_loaded, Todo, Todos, Processor, edit_of, is_of, key_of, SiteState, is_sort, s_next, same_site, site_after, site_moves, Exchange, FineStep, Site, same-itself, same-sound, Fine, domain, domain_state, one_if, parts, parts_state, total, Behind, OnMemory, access_over, edited, edits, edits_step, Fits, behind_shown, or-false, before_in, parts_after, parts_moves, DomainIs}
 use Rattle.um_base.specs.declared.names.Access.TheVariants as Access
 use Rattle.um_machine.specs.Domains.{domain_after}
 use Rattle.um_machine.specs.Table as T
 use Rattle.um_words.specs.Domains as Words
-use Rattle.um_fine.specs.Asks.{begins}
+use Rattle.um_machine.specs.State.{thread_at}
+use Rattle.um_words.specs.declared.fine.Mark.{Mark}
+use Rattle.um_fine.specs.Answers.{is_due_act, is_killed, is_shut_act, is_tick, is_void, now_in}
+use Rattle.um_fine.specs.Asks.{begins, by_actor, says_turn}
+use Rattle.um_fine.specs.Places.{armed_for, settling}
 use Rattle.um_refinement.proofs.DomainCounts.{domain-counts}
 use Rattle.um_refinement.proofs.DomainWords.{word-else, word-here}
 use Rattle.um_refinement.proofs.DomainReads.{edited-reads, edits-one, eqb-swap, is_told, memory-edits-none, next-reply}
 use Rattle.um_refinement.proofs.Erased.{around}
-use Rattle.um_refinement.proofs.Leaves.{Lawful, Leaves, cleans, drops, event, nothing, passes, recycles, resumes}
+use Rattle.um_refinement.proofs.Leaves.{Beside, Lawful, Leaves, beside, cuts, expires, leaves, ticks, times_out, cleans, drops, event, nothing, passes, recycles, resumes}
 use Rattle.um_refinement.proofs.ListGrips.{read-rests}
 use Rattle.um_refinement.proofs.ListGrowth.{ReadsLast, is_read_claim}
-use Rattle.um_refinement.proofs.ListTails.{exact-next, tail-read, takes-read}
+use Rattle.um_refinement.proofs.ListTails.{adds-pass, quiet-next, tail-read, takes-read}
 use Rattle.um_refinement.proofs.MemorySteps.{part-total}
-use Rattle.um_refinement.proofs.Offered.{IsStep, Shows, site-is, either-act}
+use Rattle.um_refinement.proofs.Offered.{IsStopping, at-made, by-made, IsStep, Shows, site-is, either-act}
 use Rattle.um_refinement.proofs.SchedulerSteps.{made-at, made-says}
 use Rattle.um_refinement.proofs.StepReads.{is-behind}
 use Rattle.um_refinement.proofs.WordsKept.{IsShown}
@@ -114,7 +118,7 @@ module _ (f : Fine) (m : State) (e : FineStep) (law : Lawful f m e) (d : ℕ) (f
       ]
 
   edited-after : (q : Todo) (todo : Todos) → p.todo ≡ q ∷ todo → is_read_claim q ≡ false → ReadsLast e q todo → edited d now.todo ≡ edited d todo
-  edited-after q todo at other last = tail-read f.image (edited d) None (edited-reads f.image d) p e q todo at other (frame q todo at) last
+  edited-after q todo at other last = tail-read f.image (edited d) None (edited-reads f.image d) p e q todo at other (adds-pass f.image (edited d) None (edited-reads f.image d) (λ c z. refl) q) (frame q todo at) last
 
   -- the number of processors that edit the domain
   edits-of : (g : ℕ → Processor) (k n : ℕ) → k < f.cpus → total (λ j. one_if (edits d (g j).todo)) f.cpus ≡ n → one_if (edits d (g k).todo) ≤ n
@@ -167,7 +171,7 @@ module _ (f : Fine) (m : State) (e : FineStep) (law : Lawful f m e) (d : ℕ) (f
           by k l false z = by-other k l (eqb-false e.cpu k z) (edited d (f.processors k).todo) refl
 
       moved-is : e.moved ≡ Exchange.edited (before_in e.moved) (domain_after (before_in e.moved) (edit_of f.image q (before_in e.moved)))
-      moved-is = sym (ap (λ (s : FineStep). s.moved) law.by.may.makes) ∙ ap (λ (z : Todos). moves f.image p z e.moved) at
+      moved-is = sym (ap (λ (s : FineStep). s.moved) law.by.may.makes) ∙ ap (λ (z : Todos). moves f.image p z e.act e.moved) at
 
       given : parts f d ≡ before_in e.moved
       given =
@@ -185,7 +189,7 @@ module _ (f : Fine) (m : State) (e : FineStep) (law : Lawful f m e) (d : ℕ) (f
 
       reply : now.reply ≡ reply_to (edit_of f.image q (T.domain_at m d))
       reply =
-          ap (λ (z : Processor). z.reply) (exact-next f.image p e (Todo.edit d q ∷ todo) at (ap (λ a. begins_cleaning (record e { act = a })) said))
+          ap (λ (z : Processor). z.reply) (quiet-next f.image p e (Todo.edit d q ∷ todo) Unseen.Edit at said refl)
           ∙ ap (λ b. reply_to (edit_of f.image q b)) here
 
       some-same : {a b : Pending} → Some a ≡ Some b → a ≡ b
@@ -259,14 +263,20 @@ module _ (f : Fine) (m : State) (e : FineStep) (law : Lawful f m e) (d : ℕ) (f
       let behind = (subst (Fits f.image p.context) at (law.rel.processors e.cpu law.by.named).list.fits).1 in
       (behind, λ read. behind ∙ read-rests f.image p p.context q e.act (made-says f m e law (Todo.show q rest ∷ todo) at) read)
 
+  edited-settling : (c : Context) (o : Option ℕ) (q : Pending) → edited d (settling f.image c o q) ≡ None
+  edited-settling c None q = refl
+  edited-settling c (Some deadline) q = refl
+
   edited-behind : (c : Context) (q : Pending) → edited d (behind_shown f.image c q) ≡ None
-  edited-behind c (Pending.Load to a n) = refl
+  edited-behind c (Pending.Work a ask) = edited-settling c (armed_for f.image c (Pending.Work a ask)) (Pending.Work a ask)
+  edited-behind c (Pending.Join who timeout) = edited-settling c (armed_for f.image c (Pending.Join who timeout)) (Pending.Join who timeout)
+  edited-behind c (Pending.FutexWait a value timeout) = edited-settling c (armed_for f.image c (Pending.FutexWait a value timeout)) (Pending.FutexWait a value timeout)
   edited-behind c q = refl
 
   -- an event of an instruction that edits another domain, or none
-  beside : (q : Pending) (rest : Steps) (todo : Todos) (s : State) → p.todo ≡ Todo.show q rest ∷ todo → edits_step d q ≡ false → T.domain_at s d ≡ T.domain_at m d
+  aside : (q : Pending) (rest : Steps) (todo : Todos) (s : State) → p.todo ≡ Todo.show q rest ∷ todo → edits_step d q ≡ false → T.domain_at s d ≡ T.domain_at m d
       → (domain later d).init ≡ (domain f d).init → is_edit e.act ≡ false → StandsFor later s d
-  beside q rest todo s at none same init no-edit =
+  aside q rest todo s at none same init no-edit =
       let l = shown-last q rest todo at in
       let empty = edited-after (Todo.show q rest) todo at refl l.1 ∙ (ap (edited d) l.0 ∙ edited-behind p.context q) in
       unchanged s same init (cell-same no-edit) (empty ∙ sym (ap (edited d) at ∙ ap (λ b. if b then Some q else None) none)) (inr empty)
@@ -282,14 +292,14 @@ module _ (f : Fine) (m : State) (e : FineStep) (law : Lawful f m e) (d : ℕ) (f
       said = made-says f m e law (Todo.read_claim u ∷ todo) at
 
       exact : (u : Option ℕ) (todo : Todos) → p.todo ≡ Todo.read_claim u ∷ todo → now ≡ goes_on_by f.image p e (Todo.read_claim u ∷ todo)
-      exact u todo at = exact-next f.image p e (Todo.read_claim u ∷ todo) at (ap (λ a. begins_cleaning (record e { act = a })) (made-says f m e law (Todo.read_claim u ∷ todo) at))
+      exact u todo at = quiet-next f.image p e (Todo.read_claim u ∷ todo) Unseen.ReadClaim at (made-says f m e law (Todo.read_claim u ∷ todo) at) refl
 
       memory-none : (q : Pending) → OnMemory q → (if edits_step d q then Some q else None) ≡ None
       memory-none q on = ap (λ b. if b then Some q else None) (memory-edits-none d q on)
 
-      unless : (b : Bool) (q : Pending) (rest : Steps) → edited d (unless_loaded b (Todo.region_load ∷ Todo.show q rest ∷ access_over)) ≡ (if edits_step d q then Some q else None)
-      unless true q rest = refl
-      unless false q rest = refl
+      unless : (b : Bool) (q : Pending) (rest : Steps) (over : Todos) → edited d (unless_loaded b (Todo.region_load ∷ Todo.show q rest ∷ access_over over)) ≡ (if edits_step d q then Some q else None)
+      unless true q rest over = refl
+      unless false q rest over = refl
 
       claim : (w : ℕ) (init : Bool) (todo : Todos) → edited d (after_claim p w init 0 todo).todo ≡ edited d todo
       claim w true todo = refl
@@ -298,13 +308,13 @@ module _ (f : Fine) (m : State) (e : FineStep) (law : Lawful f m e) (d : ℕ) (f
       none : (u : Option ℕ) (todo : Todos) → p.todo ≡ Todo.read_claim u ∷ todo → Behind f.image (Todo.read_claim u) todo → edited d now.todo ≡ None
       none None todo at h =
           ap (λ (z : Processor). edited d z.todo) (exact None todo at)
-          ∙ (ap (λ (z : Todos). edited d (unless_loaded (is_of (key_of (record p { version = (domain_in e.word).version })) p.table) z)) h.2
-          ∙ (unless (is_of (key_of (record p { version = (domain_in e.word).version })) p.table) h.0 h.1 ∙ memory-none h.0 h.3))
+          ∙ (ap (λ (z : Todos). edited d (unless_loaded (is_of (key_of (record p { version = (domain_in e.word).version })) p.table) z)) (h.1 ∙ ap (λ (z : Todos). Todo.region_load ∷ z) h.2.3)
+          ∙ (unless (is_of (key_of (record p { version = (domain_in e.word).version })) p.table) h.2.0 h.2.1 h.2.2 ∙ memory-none h.2.0 h.2.4))
       none (Some w) todo at h =
           ap (λ (z : Processor). edited d z.todo) (exact (Some w) todo at) ∙ (claim w (domain_in e.word).init todo ∙ ap (edited d) h.2)
 
       before : (u : Option ℕ) (todo : Todos) → p.todo ≡ Todo.read_claim u ∷ todo → Behind f.image (Todo.read_claim u) todo → edited d p.todo ≡ None
-      before None todo at h = ap (edited d) (at ∙ ap (λ (z : Todos). Todo.read_claim None ∷ z) h.2) ∙ memory-none h.0 h.3
+      before None todo at h = ap (edited d) (at ∙ ap (λ (z : Todos). Todo.read_claim None ∷ z) (h.1 ∙ ap (λ (z : Todos). Todo.region_load ∷ z) h.2.3)) ∙ memory-none h.2.0 h.2.4
       before (Some w) todo at h = ap (edited d) (at ∙ ap (λ (z : Todos). Todo.read_claim (Some w) ∷ z) h.2)
 
   write-claimed : (u : ℕ) (todo : Todos) → p.todo ≡ Todo.write_claim u ∷ todo → StandsFor later m d
@@ -332,14 +342,19 @@ module _ (f : Fine) (m : State) (e : FineStep) (law : Lawful f m e) (d : ℕ) (f
           (none ∙ sym (ap (edited d) at)) (inr none)
 
   quiet-part : (u : Unseen) → e.act ≡ FineAct.Unseen u → (todo : Todos) → p.todo ≡ todo → StandsFor later m d
-  quiet-part u said [] at = idle-stands m at refl (ap is_init said) (ap is_edit (made-says f m e law [] at) ∙ idle-no-edit e.moved)
+  quiet-part u said [] at = idle-stands m at refl (ap is_init said) (ap is_edit (made-says f m e law [] at) ∙ no-edit (is_due_act e.act) (is_tick e.act))
     where
-      idle-no-edit : (moved : Exchange) → is_edit (says_idle f.image p moved) ≡ false
-      idle-no-edit (Exchange.thread c None) = refl
-      idle-no-edit (Exchange.thread c (Some told)) = refl
-      idle-no-edit moved = refl
+      turn : (moved : Exchange) → is_edit (says_turn f.image p moved) ≡ false
+      turn (Exchange.thread c None) = refl
+      turn (Exchange.thread c (Some told)) = refl
+      turn moved = refl
+
+      no-edit : (due tick : Bool) → is_edit (if due then FineAct.Unseen Unseen.Due else if tick then by_actor f.image p (Act.Tick (now_in (act_in e.act))) else says_turn f.image p e.moved) ≡ false
+      no-edit true tick = refl
+      no-edit false true = refl
+      no-edit false false = turn e.moved
   quiet-part u said (Todo.show q rest ∷ todo) at =
-      beside q rest todo m at (no-edit q (sym said ∙ made-says f m e law (Todo.show q rest ∷ todo) at)) refl (init-same (ap is_init said))
+      aside q rest todo m at (no-edit q (sym said ∙ made-says f m e law (Todo.show q rest ∷ todo) at)) refl (init-same (ap is_init said))
       (ap is_edit (made-says f m e law (Todo.show q rest ∷ todo) at) ∙ shows-no-edit q)
     where
       unshown : {A : Type 0} {x : Event} {y : More} → FineAct.Unseen u ≡ FineAct.Shown x y → A
@@ -352,7 +367,7 @@ module _ (f : Fine) (m : State) (e : FineStep) (law : Lawful f m e) (d : ℕ) (f
       no-edit q h = refl
 
       begins-no : (q : Pending) → is_edit (begins f.image p q e.act) ≡ false
-      begins-no q = elim (is_word_read e.act) as (λ b. is_edit (if b then FineAct.Unseen Unseen.WordRead else shows f.image p q e.act) ≡ false) [ true ↦ refl | false ↦ refl ]
+      begins-no q = visits-no-edit (is_word_read e.act) _ _ refl (visits-no-edit (is_killed e.act) _ _ refl refl)
 
       shows-no-edit : (q : Pending) → is_edit (says_show f.image p q e.act) ≡ false
       shows-no-edit Pending.Begin = begins-no Pending.Begin
@@ -365,6 +380,12 @@ module _ (f : Fine) (m : State) (e : FineStep) (law : Lawful f m e) (d : ℕ) (f
   quiet-part u said (Todo.drop x ∷ todo) at = neither (Todo.drop x) todo m at refl refl (ap is_init said) (ap is_edit (made-says f m e law (Todo.drop x ∷ todo) at) ∙ visits-no-edit (is_visit e.act) _ _ refl refl)
   quiet-part u said (Todo.clean_pair who x ∷ todo) at =
       neither (Todo.clean_pair who x) todo m at refl refl (ap is_init said) (ap is_edit (made-says f m e law (Todo.clean_pair who x ∷ todo) at) ∙ visits-no-edit (is_visit e.act) _ _ refl refl)
+  quiet-part u said (Todo.look who site before ∷ todo) at =
+      neither (Todo.look who site before) todo m at refl refl (ap is_init said) (ap is_edit (made-says f m e law (Todo.look who site before ∷ todo) at) ∙ visits-no-edit (is_void e.act) _ _ refl refl)
+  quiet-part u said (Todo.rouse who ∷ todo) at = neither (Todo.rouse who) todo m at refl refl (ap is_init said) (ap is_edit (made-says f m e law (Todo.rouse who ∷ todo) at) ∙ visits-no-edit (is_void e.act) _ _ refl refl)
+  quiet-part u said (Todo.leave ∷ todo) at = neither Todo.leave todo m at refl refl (ap is_init said) (ap is_edit (made-says f m e law (Todo.leave ∷ todo) at) ∙ visits-no-edit (is_shut_act e.act) _ _ refl refl)
+  quiet-part u said (Todo.handle deadline mark ∷ todo) at =
+      neither (Todo.handle deadline mark) todo m at refl refl (ap is_init said) (ap is_edit (made-says f m e law (Todo.handle deadline mark ∷ todo) at) ∙ visits-no-edit (is_void e.act) _ _ refl refl)
   quiet-part u said (q ∷ todo) at = neither q todo m at refl refl (ap is_init said) (ap is_edit (made-says f m e law (q ∷ todo) at))
 
   -- An event.
@@ -384,7 +405,7 @@ module _ (f : Fine) (m : State) (e : FineStep) (law : Lawful f m e) (d : ℕ) (f
     where
       by : (b : Bool) → (u == d) ≡ b → StandsFor later s d
       by false other =
-          beside q rest todo s at (edits-one d u q is ∙ (eqb-swap d u ∙ other))
+          aside q rest todo s at (edits-one d u q is ∙ (eqb-swap d u ∙ other))
           (ap (λ (all : List (Option Partitions)). slice_index_or all d None) makes ∙ get_or-set_other m.domains u d _ None (λ h. eqb-false u d other (sym h)))
           (ap (λ (w : DomWord). w.init) (word-else f m e law d (ap (λ i. same_site i (Site.domain d)) site ∙ other))) quiet
       by true same =
@@ -398,23 +419,29 @@ module _ (f : Fine) (m : State) (e : FineStep) (law : Lawful f m e) (d : ℕ) (f
   stands-beside : (q : Pending) (rest : Steps) (todo : Todos) (x : ℕ) → Shows f m e.cpu e q rest todo → IsStep f m e.cpu e x q → edits_step d q ≡ false → Makes NoDomains q
       → is_init_act (says_step f.image p q (act_in e.act)) ≡ false → StandsFor later (T.after m p.context.thread x q rest) d
   stands-beside q rest todo x h is none makes no-init =
-      beside q rest todo (T.after m p.context.thread x q rest) h.at none
+      aside h.listed rest todo (T.after m p.context.thread x q rest) h.at (by-made h (λ z. edits_step d z ≡ false → edits_step d h.listed ≡ false) (λ killed k. k) (λ killed stopping k. stopped h.listed stopping) none)
       (ap (λ (all : List (Option Partitions)). slice_index_or all d None) (domains-same m p.context.thread x q rest makes))
       (init-same (ap is_init is.said ∙ no-init)) (ap is_edit is.said)
+    where
+      stopped : (z : Pending) → IsStopping z → edits_step d z ≡ false
+      stopped Pending.Begin s = refl
+      stopped Pending.Exit s = refl
+      stopped Pending.Killed s = refl
+      stopped z s = absurd s
 
   by-event : (q : Pending) (rest : Steps) (todo : Todos) (x : ℕ) → Shows f m e.cpu e q rest todo → IsShown q → IsStep f m e.cpu e x q → StandsFor later (T.after m p.context.thread x q rest) d
   by-event (Pending.DomInit u parts) rest todo x h shown is =
-      edits-event u (Pending.DomInit u parts) rest todo _ h.at (eq-eqb u u refl) (site-is h) refl (ap is_edit is.said) (λ w. ap (λ a. (Words.domain_after w a).writer) is.said)
+      edits-event u (Pending.DomInit u parts) rest todo _ (at-made h tt) (eq-eqb u u refl) (site-is h) refl (ap is_edit is.said) (λ w. ap (λ a. (Words.domain_after w a).writer) is.said)
       (λ r.
       ap (λ a. (Words.domain_after (domain f d) a).init) is.said
       ∙ ((λ i. was.init i || Words.is_zero (r i)) ∙ sym (inits-some (T.domain_at m d) (edit_of f.image (Pending.DomInit u parts) (T.domain_at m d)))))
   by-event (Pending.DomAdd u range attr) rest todo x h shown is =
-      edits-event u (Pending.DomAdd u range attr) rest todo _ h.at (eq-eqb u u refl) (site-is h) refl (ap is_edit is.said) (λ w. ap (λ a. (Words.domain_after w a).writer) is.said)
+      edits-event u (Pending.DomAdd u range attr) rest todo _ (at-made h tt) (eq-eqb u u refl) (site-is h) refl (ap is_edit is.said) (λ w. ap (λ a. (Words.domain_after w a).writer) is.said)
       (λ r.
       ap (λ a. (Words.domain_after (domain f d) a).init) is.said
       ∙ (or-false (domain f d).init ∙ (was.init ∙ sym (adds-some f.image u range attr (T.domain_at m d)))))
   by-event (Pending.DomRemove u range attr) rest todo x h shown is =
-      edits-event u (Pending.DomRemove u range attr) rest todo _ h.at (eq-eqb u u refl) (site-is h) refl (ap is_edit is.said) (λ w. ap (λ a. (Words.domain_after w a).writer) is.said)
+      edits-event u (Pending.DomRemove u range attr) rest todo _ (at-made h tt) (eq-eqb u u refl) (site-is h) refl (ap is_edit is.said) (λ w. ap (λ a. (Words.domain_after w a).writer) is.said)
       (λ r.
       ap (λ a. (Words.domain_after (domain f d) a).init) is.said
       ∙ (or-false (domain f d).init ∙ (was.init ∙ sym (removes-some f.image u range attr (T.domain_at m d)))))
@@ -422,6 +449,16 @@ module _ (f : Fine) (m : State) (e : FineStep) (law : Lawful f m e) (d : ℕ) (f
   by-event (Pending.Store a n value) rest todo x h shown is = stands-beside (Pending.Store a n value) rest todo x h is refl tt (either-act is_init_act false (allows f.image p Access.Write a.0 n) _ _ refl refl)
   by-event (Pending.Fetch a) rest todo x h shown is = stands-beside (Pending.Fetch a) rest todo x h is refl tt (either-act is_init_act false (allows f.image p Access.Exec a.0 4) _ _ refl refl)
   by-event q rest todo x h shown is = stands-beside q rest todo x h is refl tt refl
+
+  on-beside : (t x : ℕ) (q : Pending) → Beside f m e t x q → StandsFor later (T.after m t x q (thread_at m t).pending) d
+  on-beside t x _ (cuts who site before _ todo at place inside said) =
+      let q = Pending.Cut (to_thread who) in neither (Todo.look who site before) todo _ at refl (domains-same m t x q (thread_at m t).pending tt) (ap is_init said) (ap is_edit said)
+  on-beside t x _ (times_out deadline site _ who todo at place inside said) =
+      neither (Todo.handle deadline (Mark.Thread who site)) todo _ at refl (domains-same m t x (Pending.TimeOut who) (thread_at m t).pending tt) (ap is_init said) (ap is_edit said)
+  on-beside t x _ (expires deadline z todo at inside said) =
+      neither (Todo.handle deadline (Mark.Timer z)) todo _ at refl (domains-same m t x Pending.Expire (thread_at m t).pending tt) (ap is_init said) (ap is_edit said)
+  on-beside t x _ (ticks at said) = idle-stands _ at (domains-same m t x Pending.Tick (thread_at m t).pending tt) (ap is_init said) (ap is_edit said)
+  on-beside t x _ (leaves todo at said) = neither Todo.leave todo _ at refl (domains-same m t x Pending.Left (thread_at m t).pending tt) (ap is_init said) (ap is_edit said)
 
   stands-part : (s : State) → Leaves f m e s → StandsFor later s d
   stands-part _ (nothing u said) = quiet-part u said p.todo refl
@@ -439,9 +476,10 @@ module _ (f : Fine) (m : State) (e : FineStep) (law : Lawful f m e) (d : ℕ) (f
   stands-part _ (recycles x rest todo at l said chosen) =
       neither (Todo.recycle x) todo (T.after m p.context.thread x Pending.Recycle rest) at refl
       (domains-same m p.context.thread x Pending.Recycle rest tt) (ap is_init said) (ap is_edit said)
+  stands-part _ (beside t x q how chosen started) = on-beside t x q how
 
   pub domain-part : (s : State) → Leaves f m e s → DomainIs later s d
-  domain-part s leaves =
+  domain-part s how =
       let counts = domain-counts f m e law d few in
-      let stands = stands-part s leaves in
+      let stands = stands-part s how in
       record { init = stands.init; settled = stands.settled; changed = stands.changed; writers = counts.writers; readers = counts.readers; apart = counts.apart }

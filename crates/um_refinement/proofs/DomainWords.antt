@@ -1,11 +1,11 @@
 -- The word of a domain after a lawful step: it stays, or is what the step leaves there; and a step leaves version, writer and the machine's
 -- domain, or is the event of an edit.
-use Rattle.um_refinement.proofs.Words.{◌≡◌, ◌⊎◌, inl, inr, ℕ, ◌+◌, Bool, true, false, cond, List, Option, None, refl, sym, ap, ◌∙◌, subst, ◌==◌, IsTrue, nat_lt, slice_index_or, slice_set, and_parts, eqb-false, eqb-true, false≢true, true≢false, get_or-set_other, Act, Partitions, Pending, Steps, to_thread, State, DomWord, FineAct, Unseen, act_in, allows, says_step, Todos, SiteState, is_sort, s_next, same_site, site_after, site_takes, FineStep, Site, same-itself, Fine, domain, domain_state, counted_domain, domain_after, domain_after_act, domain_takes}
+use Rattle.um_refinement.proofs.Words.{thread_at, ◌≡◌, ◌⊎◌, inl, inr, ℕ, ◌+◌, Bool, true, false, cond, List, Option, None, refl, sym, ap, ◌∙◌, subst, ◌==◌, IsTrue, nat_lt, slice_index_or, slice_set, and_parts, eqb-false, eqb-true, false≢true, true≢false, get_or-set_other, Act, Partitions, Pending, Steps, to_thread, State, DomWord, FineAct, Unseen, act_in, allows, says_step, Todos, SiteState, is_sort, s_next, same_site, site_after, site_takes, FineStep, Site, same-itself, Fine, domain, domain_state, counted_domain, domain_after, domain_after_act, domain_takes}
 use Rattle.um_base.specs.declared.names.Access.TheVariants as Access
 use Rattle.um_machine.specs.Table as T
 use Rattle.um_refinement.proofs.DomainFacts.{NoDomains, domains-same}
 use Rattle.um_refinement.proofs.Erased.{around}
-use Rattle.um_refinement.proofs.Leaves.{Lawful, Leaves, cleans, drops, event, mine, nothing, passes, recycles, resumes}
+use Rattle.um_refinement.proofs.Leaves.{Beside, Lawful, Leaves, acting, beside, cleans, cuts, drops, event, expires, leaves, mine, nothing, passes, recycles, resumes, ticks, times_out}
 use Rattle.um_refinement.proofs.Offered.{IsStep, Shows, site-is, either-act}
 use Rattle.um_refinement.proofs.WordsKept.{IsShown}
 use Rattle.um_refinement.proofs.Writes.{Makes}
@@ -101,18 +101,25 @@ module _ (f : Fine) (m : State) (e : FineStep) (law : Lawful f m e) (d : ℕ) wh
             ap (λ (all : List (Option Partitions)). slice_index_or all d None) same ∙ get_or-set_other m.domains u d ps None (λ h. eqb-false u d q (sym h)),
           )
 
-  beside : (q : Pending) (rest : Steps) (todo : Todos) (x : ℕ) → IsStep f m e.cpu e x q → Makes NoDomains q → is_dom_act (says_step f.image (f.processors e.cpu) q (act_in e.act)) ≡ false
+  keeps : (q : Pending) (rest : Steps) (todo : Todos) (x : ℕ) → IsStep f m e.cpu e x q → Makes NoDomains q → is_dom_act (says_step f.image (f.processors e.cpu) q (act_in e.act)) ≡ false
       → Stays (T.after m (mine f m e) x q rest) ⊎ IsEdited
-  beside q rest todo x is makes quiet = inl (stays (T.after m (mine f m e) x q rest) (ap is_dom is.said ∙ quiet) (domains-same m (mine f m e) x q rest makes))
+  keeps q rest todo x is makes quiet = inl (stays (T.after m (mine f m e) x q rest) (ap is_dom is.said ∙ quiet) (domains-same m (mine f m e) x q rest makes))
 
   by-event : (q : Pending) (rest : Steps) (todo : Todos) (x : ℕ) → Shows f m e.cpu e q rest todo → IsShown q → IsStep f m e.cpu e x q → Stays (T.after m (mine f m e) x q rest) ⊎ IsEdited
   by-event (Pending.DomInit u parts) rest todo x h shown is = edits u _ (T.after m (mine f m e) x (Pending.DomInit u parts) rest) _ (site-is h) is.said refl (λ w. refl) (λ w k. (and_parts w.writer _ k).0)
   by-event (Pending.DomAdd u range attr) rest todo x h shown is = edits u _ (T.after m (mine f m e) x (Pending.DomAdd u range attr) rest) _ (site-is h) is.said refl (λ w. refl) (λ w k. (and_parts w.writer _ k).0)
   by-event (Pending.DomRemove u range attr) rest todo x h shown is = edits u _ (T.after m (mine f m e) x (Pending.DomRemove u range attr) rest) _ (site-is h) is.said refl (λ w. refl) (λ w k. (and_parts w.writer _ k).0)
-  by-event (Pending.Load to a n) rest todo x h shown is = beside (Pending.Load to a n) rest todo x is tt (either-act is_dom_act false (allows f.image (f.processors e.cpu) Access.Read a.0 n) _ _ refl refl)
-  by-event (Pending.Store a n value) rest todo x h shown is = beside (Pending.Store a n value) rest todo x is tt (either-act is_dom_act false (allows f.image (f.processors e.cpu) Access.Write a.0 n) _ _ refl refl)
-  by-event (Pending.Fetch a) rest todo x h shown is = beside (Pending.Fetch a) rest todo x is tt (either-act is_dom_act false (allows f.image (f.processors e.cpu) Access.Exec a.0 4) _ _ refl refl)
-  by-event q rest todo x h shown is = beside q rest todo x is tt refl
+  by-event (Pending.Load to a n) rest todo x h shown is = keeps (Pending.Load to a n) rest todo x is tt (either-act is_dom_act false (allows f.image (f.processors e.cpu) Access.Read a.0 n) _ _ refl refl)
+  by-event (Pending.Store a n value) rest todo x h shown is = keeps (Pending.Store a n value) rest todo x is tt (either-act is_dom_act false (allows f.image (f.processors e.cpu) Access.Write a.0 n) _ _ refl refl)
+  by-event (Pending.Fetch a) rest todo x h shown is = keeps (Pending.Fetch a) rest todo x is tt (either-act is_dom_act false (allows f.image (f.processors e.cpu) Access.Exec a.0 4) _ _ refl refl)
+  by-event q rest todo x h shown is = keeps q rest todo x is tt refl
+
+  on-beside : (t x : ℕ) (q : Pending) → Beside f m e t x q → Stays (T.after m t x q (thread_at m t).pending) ⊎ IsEdited
+  on-beside _ _ _ (cuts who site before x todo at place inside said) = inl (stays (T.after m (mine f m e) x (Pending.Cut (to_thread who)) (thread_at m (mine f m e)).pending) (ap is_dom said) (domains-same m (mine f m e) x (Pending.Cut (to_thread who)) (thread_at m (mine f m e)).pending tt))
+  on-beside _ _ _ (times_out deadline site x who todo at place inside said) = inl (stays (T.after m (acting f m e) x (Pending.TimeOut who) (thread_at m (acting f m e)).pending) (ap is_dom said) (domains-same m (acting f m e) x (Pending.TimeOut who) (thread_at m (acting f m e)).pending tt))
+  on-beside _ _ _ (expires deadline x todo at inside said) = inl (stays (T.after m (acting f m e) x.0 Pending.Expire (thread_at m (acting f m e)).pending) (ap is_dom said) (domains-same m (acting f m e) x.0 Pending.Expire (thread_at m (acting f m e)).pending tt))
+  on-beside _ _ _ (ticks at said) = inl (stays (T.after m (acting f m e) 0 Pending.Tick (thread_at m (acting f m e)).pending) (ap is_dom said) (domains-same m (acting f m e) 0 Pending.Tick (thread_at m (acting f m e)).pending tt))
+  on-beside _ _ _ (leaves todo at said) = inl (stays (T.after m (mine f m e) 0 Pending.Left (thread_at m (mine f m e)).pending) (ap is_dom said) (domains-same m (mine f m e) 0 Pending.Left (thread_at m (mine f m e)).pending tt))
 
   pub stays-or-edited : (s : State) → Leaves f m e s → Stays s ⊎ IsEdited
   stays-or-edited _ (nothing u said) = inl (stays m (ap is_dom said) refl)
@@ -124,3 +131,4 @@ module _ (f : Fine) (m : State) (e : FineStep) (law : Lawful f m e) (d : ℕ) wh
   stays-or-edited _ (cleans who x rest todo h said) =
       inl (stays (T.after m (mine f m e) x (Pending.CleanPair (to_thread who)) rest) (ap is_dom said) (domains-same m (mine f m e) x (Pending.CleanPair (to_thread who)) rest tt))
   stays-or-edited _ (recycles x rest todo at l said chosen) = inl (stays (T.after m (mine f m e) x Pending.Recycle rest) (ap is_dom said) (domains-same m (mine f m e) x Pending.Recycle rest tt))
+  stays-or-edited _ (beside t x q how chosen started) = on-beside t x q how

@@ -1,6 +1,11 @@
 -- Each thread that was started is in a domain of the image, in every state that a run of the access-matrix machine reaches.
-use Rattle.um_refinement.proofs.Words.{◌≡◌, ◌⊎◌, inl, inr, ℕ, zero, suc, ◌<◌, Bool, true, false, List, [], ◌∷◌, length, Option, Some, None, refl, sym, ap, ◌∙◌, subst, arith, ◌==◌, IsTrue, is_some, slice_get, slice_index_or, list_all, and_parts, eqb-false, eqb-true, false≢true, true≢false, length-set, Event, Boot, Image, IsLawful, is_lawful_boot, Partitions, Pending, Life, Thread, Steps, Offers, Runs, begins, blank, boot_thread, booted, booted_one, exits, goes, loaded, opening, skips_drops, skips_inherit, State, is_living, is_started, nobody, thread_at, with_thread, is_empty, at_set, THREADS, IsDescribed, Act, DomainDef, is_initialised, tends}
+use Rattle.um_refinement.proofs.Words.{Change, Effect, MayChoose, Next, Way, and_parts, went, wrote, ◌≡◌, ◌⊎◌, inl, inr, ℕ, zero, suc, ◌<◌, Bool, true, false, List, [], ◌∷◌, length, Option, Some, None, refl, sym, ap, ◌∙◌, subst, arith, ◌==◌, IsTrue, is_some, slice_get, slice_index_or, list_all, and_parts, eqb-false, eqb-true, false≢true, true≢false, length-set, Event, Boot, Image, IsLawful, is_lawful_boot, Partitions, Pending, Life, Thread, Steps, Offers, Runs, begins, blank, boot_thread, booted, booted_one, exits, goes, loaded, opening, skips_drops, skips_inherit, State, is_living, is_started, nobody, thread_at, with_thread, is_empty, at_set, THREADS, IsDescribed, Act, DomainDef, is_initialised, tends}
+use Rattle.um_machine.specs.Joins.{has_ended}
+use Rattle.um_machine.specs.Run.{leaves, stops}
+use Rattle.um_machine.specs.Services.{without}
+use Rattle.um_machine.specs.State.{is_to_resume, is_waiting, waiters_in, with_waiters}
 use Rattle.um_machine.specs.Table as T
+use Rattle.um_machine.specs.Writes.{Flag, cut, flagged, only}
 use Rattle.um_refinement.proofs.Erased.{IsReachable}
 use Rattle.um_refinement.proofs.FirstObjects.{opening-image}
 use Rattle.um_refinement.proofs.FirstReady.{entry, threads-are}
@@ -35,6 +40,8 @@ offered-placed m n t q rest offers (inr quiet) = absurd (by offers)
     by (skips_drops e due) = empty _ e refl
     by (begins e lives doomed there) = false≢true (sym unlived ∙ lives)
     by (exits e lives doomed there) = false≢true (sym unlived ∙ lives)
+    by (stops e lives must) = false≢true (sym unlived ∙ lives)
+    by (leaves ends) = false≢true (sym (ap has_ended quiet.0) ∙ (and_parts _ _ ends).0)
     by (tends is started) = false≢true (sym unborn ∙ started)
 
 inside : (all : List (Option Partitions)) (d : ℕ) → is_some (slice_index_or all d None) ≡ true → d < length all
@@ -67,28 +74,55 @@ module _ (m : State) (n t x : ℕ) (all : (u : ℕ) → Placed n (thread_at m u)
           let same = others m t u (eqb-false t u e) x q rest (other u) in
           inr (ap (λ (z : Thread). z.life) same ∙ quiet.0, ap (λ (z : Thread). z.pending) same ∙ quiet.1)
 
-  pub placed-after : (q : Pending) (rest : Steps) → (thread_at m t).domain < n → All (T.after m t x q rest)
-  placed-after Pending.Exit rest here = written m t _ (inl here) all
-  placed-after (Pending.Fatal reason cause) rest here = written m t _ (inl here) all
-  placed-after (Pending.EnterUser script) rest here = written m t _ (inl here) all
-  placed-after (Pending.Dooms from) rest here =
-      let th = record (thread_at m from) { doomed = true } in
-      written (with_thread m from th) t _ (inl (still (all from))) (written m from th (same (all from)) all)
+  -- a thread is written that is in the same domain, lives as long, and has the same steps left; and then the one that makes the step
+  rewritten : (v : ℕ) (th : Thread) → th.domain ≡ (thread_at m v).domain → th.life ≡ (thread_at m v).life → th.pending ≡ (thread_at m v).pending → (thread_at m t).domain < n
+      → All (with_thread m v th) × ((thread_at (with_thread m v th) t).domain < n)
+  rewritten v th domain life pending here = (written m v th (same (all v)) all, kept (v == t) refl)
     where
-      same : Placed n (thread_at m from) → Placed n (record (thread_at m from) { doomed = true })
-      same (inl l) = inl l
-      same (inr quiet) = inr quiet
+      same : Placed n (thread_at m v) → Placed n th
+      same (inl l) = inl (subst (λ d. d < n) (sym domain) l)
+      same (inr quiet) = inr (life ∙ quiet.0, pending ∙ quiet.1)
 
-      kept : (b : Bool) → (from == t) ≡ b → (thread_at (with_thread m from (record (thread_at m from) { doomed = true })) t).domain < n
-      kept true e = at_set (λ k (z : Thread). z.domain < n) m.threads from t (record (thread_at m from) { doomed = true }) nobody (subst (λ k. (thread_at m k).domain < n) (sym (eqb-true from t e)) here) here
-      kept false e = subst (λ (z : Thread). z.domain < n) (sym (set-else m.threads from t (record (thread_at m from) { doomed = true }) (eqb-false from t e))) here
+      kept : (b : Bool) → (v == t) ≡ b → (thread_at (with_thread m v th) t).domain < n
+      kept true e =
+          at_set (λ k (z : Thread). z.domain < n) m.threads v t th nobody (subst (λ d. d < n) (sym domain) (subst (λ k. (thread_at m k).domain < n) (sym (eqb-true v t e)) here)) here
+      kept false e = subst (λ (z : Thread). z.domain < n) (sym (set-else m.threads v t th (eqb-false v t e))) here
 
-      still : Placed n (thread_at m from) → (thread_at (with_thread m from (record (thread_at m from) { doomed = true })) t).domain < n
-      still p = kept (from == t) refl
-  placed-after (Pending.Start who script stack priority mode) rest here =
+  -- a flag is set, or isn't
+  flags-after : (b : Bool) (who : ℕ) (flag : Flag) (rest : Steps) → (thread_at m t).domain < n
+      → All (went rest (wrote (only b (Effect.flags who flag) ∷ []) m) t (Next.on Change.nothing Way.rest))
+  flags-after false who flag rest here = written m t _ (inl here) all
+  flags-after true who flag rest here = let r = flag-written flag in written (with_thread m who (flagged flag (thread_at m who))) t _ (inl r.1) r.0
+    where
+      flag-written : (flag : Flag) → All (with_thread m who (flagged flag (thread_at m who))) × ((thread_at (with_thread m who (flagged flag (thread_at m who))) t).domain < n)
+      flag-written Flag.aborted = rewritten who _ refl refl refl here
+      flag-written (Flag.suspended on) = rewritten who _ refl refl refl here
+
+  -- who is cut waits
+  waiting : (th : Thread) → is_waiting th ≡ true → th.pending ≡ [] → ⊥
+  waiting th w none = false≢true (sym (ap is_to_resume none) ∙ (and_parts (is_to_resume th.pending) _ w).0)
+
+  pub placed-after : (q : Pending) (rest : Steps) → (thread_at m t).domain < n → MayChoose m t x q → All (T.after m t x q rest)
+  placed-after Pending.Exit rest here chosen = written m t _ (inl here) all
+  placed-after Pending.Killed rest here chosen = written m t _ (inl here) all
+  placed-after (Pending.Abort who) rest here chosen = flags-after (is_living (thread_at m who.0).life) who.0 Flag.aborted rest here
+  placed-after (Pending.Suspend who) rest here chosen = flags-after (is_living (thread_at m who.0).life) who.0 (Flag.suspended true) rest here
+  placed-after (Pending.Continue who) rest here chosen = flags-after (is_living (thread_at m who.0).life) who.0 (Flag.suspended false) rest here
+  placed-after (Pending.Cut who) rest here chosen = written (with_waiters m x (without who.0 (waiters_in m x))) who.0 (cut (thread_at m who.0)) (cut-placed (all who.0)) all
+    where
+      cut-placed : Placed n (thread_at m who.0) → Placed n (cut (thread_at m who.0))
+      cut-placed (inl l) = inl l
+      cut-placed (inr quiet) = absurd (waiting (thread_at m who.0) (and_parts _ _ (and_parts (thread_at m who.0).aborted _ chosen).1).0 quiet.1)
+  placed-after (Pending.Fatal reason cause) rest here chosen = written m t _ (inl here) all
+  placed-after (Pending.EnterUser script) rest here chosen = written m t _ (inl here) all
+  placed-after (Pending.Dooms from) rest here chosen =
+      let th = record (thread_at m from) { doomed = true } in
+      let r = rewritten from th refl refl refl here in
+      written (with_thread m from th) t _ (inl r.1) r.0
+  placed-after (Pending.Start who script stack priority mode) rest here chosen =
       let th = T.newborn m (thread_at m t) who.0 script (Pending.Start who script stack priority mode) in
       written (with_thread m who.0 th) t _ (inl (within m who.0 th here here)) (written m who.0 th (inl here) all)
-  placed-after (Pending.DomMove d who) rest here = by (T.domain_at m d) refl
+  placed-after (Pending.DomMove d who) rest here chosen = by (T.domain_at m d) refl
     where
       After : Option Partitions → State
       After parts = after_saying m t x (Pending.DomMove d who) (Act.DomMove d who (T.move_reply parts)) rest
@@ -100,7 +134,7 @@ module _ (m : State) (n t x : ℕ) (all : (u : ℕ) → Placed n (thread_at m u)
           let th = record (thread_at m who.0) { domain = d } in
           let few : d < n = subst (λ k. d < k) many l in
           subst (λ (o : Option Partitions). All (After o)) (sym e) (written (with_thread m who.0 th) t _ (inl (within m who.0 th few here)) (written m who.0 th (inl few) all))
-  placed-after q rest here = beside q rest here tt (λ u. tt)
+  placed-after q rest here chosen = beside q rest here tt (λ u. tt)
 
 -- Along a run.
 
@@ -109,7 +143,7 @@ module _ (n : ℕ) where
   Many s = length s.domains ≡ n
 
   many-keeping : Keeping Any Many
-  many-keeping = reads-keeping Any (λ s. length s.domains) n (λ s threads. refl) (λ s objects. refl) (λ s bytes. (refl, refl)) (λ may s u x there. refl) (λ may s left. refl) (λ may s d ps. length-set s.domains d ps)
+  many-keeping = reads-keeping Any (λ s. length s.domains) n (λ s threads. refl) (λ s objects. refl) (λ s bytes. (refl, refl)) (λ may s u x there. refl) (λ may s left. refl) (λ may s d ps. length-set s.domains d ps) (λ may s joins futexes. refl) (λ may s now armed. refl)
 
   placed-run : (s : State) (events : List Event) (s2 : State) → Many s → ((u : ℕ) → Placed n (thread_at s u)) → Runs s events s2 → (u : ℕ) → Placed n (thread_at s2 u)
   placed-run s [] s2 many all run = subst (λ (z : State). (u : ℕ) → Placed n (thread_at z u)) (sym run) all
@@ -118,7 +152,7 @@ module _ (n : ℕ) where
       let here = offered-placed s n t step.step step.rest step.offered (all t) in
       placed-run mid events s2
       (subst Many (sym step.leaves) (after-kept Any Many many-keeping s t many step.row step.step step.rest (makes-any step.step)))
-      (subst (λ (z : State). (u : ℕ) → Placed n (thread_at z u)) (sym step.leaves) (placed-after s n t step.row all many step.step step.rest here)) rest
+      (subst (λ (z : State). (u : ℕ) → Placed n (thread_at z u)) (sym step.leaves) (placed-after s n t step.row all many step.step step.rest here step.chosen)) rest
 
 -- The opening.
 

@@ -1,14 +1,14 @@
 -- A processor's drop of a permission is that step of the machine, where the relation holds and permissions are of live objects alone: a
 -- release or a revocation, and what a thread's end drops.
-use Rattle.um_refinement.proofs.Words.{◌≡◌, ◌⊎◌, inl, inr, ℕ, zero, suc, ◌<◌, ◌≤◌, Bool, true, false, List, [], ◌∷◌, length, refl, sym, ap, ◌∙◌, subst, arith, eq-or-lt_of_le, ◌&&◌, not, nat_le, if◌then◌else◌, slice_index_or, slice_set, take, list_all, and_from, and_parts, false≢true, not_from_false, true≢false, get_or-set_same, Act, Leftover, ROWS, STATIC_ROWS, Addr, ThreadIx, Pending, Thread, Steps, to_thread, goes, State, object_at, pair_at, thread_at, with_pair, FineAct, Stage, has, is_free, is_last, is_live, left_of, address_of, row_named, act_in, leftover_in, row_in, FineStep, Site, SiteState, site_answers, Todo, Todos, by_me, fits, is_dropped, shows, Fine, row, has_steps, visited, recyclers, vacaters, is_visiting, Drops, Fits, Rel}
+use Rattle.um_refinement.proofs.Words.{waits, ◌≡◌, ◌⊎◌, inl, inr, ℕ, zero, suc, ◌<◌, ◌≤◌, Bool, true, false, List, [], ◌∷◌, length, refl, sym, ap, ◌∙◌, subst, arith, eq-or-lt_of_le, ◌&&◌, not, nat_le, if◌then◌else◌, slice_index_or, slice_set, take, list_all, and_from, and_parts, false≢true, not_from_false, true≢false, get_or-set_same, Act, Leftover, ROWS, STATIC_ROWS, Addr, ThreadIx, Pending, Thread, Steps, to_thread, goes, State, object_at, pair_at, thread_at, with_pair, FineAct, Stage, has, is_free, is_last, is_live, left_of, address_of, row_named, act_in, leftover_in, row_in, FineStep, Site, SiteState, site_answers, Todo, Todos, by_me, fits, is_dropped, shows, Fine, row, visited, recyclers, vacaters, is_visiting, Drops, Fits, Rel}
 use Rattle.um_machine.specs.Objects as Plain
 use Rattle.um_machine.specs.Table as T
 use Rattle.um_refinement.proofs.StepsLeft.{drops-on}
 use Rattle.um_refinement.proofs.Erased.{Goes, GoesBy}
-use Rattle.um_refinement.proofs.Offered.{IsStep, Shows, act-is, machine-step, site-is}
+use Rattle.um_refinement.proofs.Offered.{IsStep, Shows, act-is, machine-step, own-unless, site-is}
 use Rattle.um_refinement.proofs.RowSteps.{named-row, row-says, row-stands, stands-at}
 use Rattle.um_refinement.proofs.Says.{left-agrees, live}
-use Rattle.um_refinement.proofs.VisitSteps.{Visits, pair-is, visit-act, visit-part, visit-shows, visit-site}
+use Rattle.um_refinement.proofs.VisitSteps.{Visits, pair-is, visit-act, visit-part, visit-runs, visit-shows, visit-site}
 
 -- what is known of the machine's permissions: they are of live objects, and each row has a list of holders
 pub record Held (m : State) (x who : ℕ) : Type 0 where
@@ -93,7 +93,7 @@ module _ {f : Fine} {m : State} {k : ℕ} {e : FineStep} {x : ℕ} {todo : Todos
       by : (b : Bool) → slice_index_or (thread_at m (f.processors k).context.thread).due y false ≡ b → b ≡ false
       by false d = refl
       by true d =
-          let least = (h.rel.processors k h.there).dues.passes (ap has_steps h.at) (ap is_visiting drop-fits.pending) y d in
+          let least = (h.rel.processors k h.there).dues.passes (visit-runs h (λ hand. hand)) (ap is_visiting drop-fits.pending) y d in
           let here : visited (f.processors k).todo ≡ x = ap visited h.at in absurd (omega (arith, least, here, less))
 
   pub drop-step : Held m x (f.processors k).context.thread
@@ -106,9 +106,9 @@ module _ {f : Fine} {m : State} {k : ℕ} {e : FineStep} {x : ℕ} {todo : Todos
       let fit : is_dropped (leftover_in (act_in e.act)) ≡ true = drop-found in
       let there : has (row f x) t ≡ true = dropped-has (has (row f x) t) (is_last (row f x) t) (ap is_dropped left ∙ fit) in
       let dues = (h.rel.processors k h.there).dues in
-      let own = ((visit-part h).of (drops-on f.image (f.processors k).context todo drop-fits)).own in
+      let own = own-unless ((visit-part h (λ hand. hand)).of (drops-on f.image (f.processors k).context todo drop-fits)) (ap waits drop-fits.pending) in
       let least : drop-fits.from ≤ x =
-      (let low = dues.drops drop-fits.from (drop-fits.step ∷ drop-fits.rest) (ap has_steps h.at) drop-fits.pending in
+      (let low = dues.drops drop-fits.from (drop-fits.step ∷ drop-fits.rest) (visit-runs h (λ hand. hand)) drop-fits.pending in
       let at : visited (f.processors k).todo ≡ x = ap visited h.at in omega (arith, low, at)) in (
         drop-fits.from,
         drop-fits.step ∷ drop-fits.rest,

@@ -1,6 +1,11 @@
 -- Where a thread's next step is expanded, what is due of it isn't visited yet; and what a thread goes on with after an event is no visit, or
 -- begins one at a row that there is.
-use Rattle.um_refinement.proofs.Words.{◌≡◌, ◌⊎◌, inl, inr, ℕ, ◌+◌, ◌<◌, ◌≤◌, Bool, true, false, List, [], ◌∷◌, Option, Some, None, refl, sym, ap, ◌∙◌, subst, arith, eq-eqb, eq-or-lt_of_le, ◌==◌, if◌then◌else◌, nat_lt, and_parts, eqb-true, false≢true, true≢false, Act, Image, Instr, ROWS, THREADS, Mode, Policy, ThreadIx, IsLawful, own_row, Pending, Thread, Next, Way, steps_by, told_way, Steps, fatal_steps, privileged, steps_of, Offers, begins, exits, goes, skips_drops, skips_inherit, State, pair_at, thread_at, HoldsOfWays, way-left, claims, Call, call_is, real-below, AreKept, are_orderly, Context, as_thread, came_in, continues, gone_part, but, fine_steps, next_steps, Exchange, is_visiting, has_steps, visited, behind_shown, DueFrom, MayPass, are_plain, clears_one, starts_one, tends}
+use Rattle.um_refinement.proofs.Words.{◌≡◌, ◌⊎◌, inl, inr, ℕ, ◌+◌, ◌<◌, ◌≤◌, Bool, true, false, List, [], ◌∷◌, Option, Some, None, refl, sym, ap, ◌∙◌, subst, arith, eq-eqb, eq-or-lt_of_le, ◌==◌, if◌then◌else◌, nat_lt, and_parts, eqb-true, false≢true, true≢false, Act, Image, Instr, ROWS, THREADS, Mode, Policy, ThreadIx, IsLawful, own_row, Pending, Thread, Next, Way, steps_by, told_way, Steps, fatal_steps, privileged, steps_of, Offers, begins, exits, goes, skips_drops, skips_inherit, State, pair_at, thread_at, way-left, claims, Call, call_is, real-below, AreKept, are_orderly, Context, as_thread, came_in, continues, gone_part, but, fine_steps, next_steps, Exchange, is_visiting, has_steps, visited, behind_shown, DueFrom, MayPass, are_plain, clears_one, starts_one, tends, Todos, FineStep, Answer, act_in, answer_in}
+use Rattle.um_base.specs.declared.names.Timeout.{Timeout}
+use Rattle.um_machine.specs.Order.{arms}
+use Rattle.um_machine.specs.Run.{leaves, stops}
+use Rattle.um_fine.specs.Follows.{rereads, waits_behind}
+use Rattle.um_fine.specs.Places.{noted_cell}
 use Rattle.um_machine.specs.Table as T
 use Rattle.um_invariants.proofs.ThreadSteps.{plain-way}
 use Rattle.um_refinement.proofs.ChildSteps.{Creates, InOrder}
@@ -88,6 +93,12 @@ offers-plain m kept t q rest shown (skips_drops {from} e due) =
     plain-rest q rest (orderly-rest (Pending.Drops from) (q ∷ rest) (subst (λ (steps : Steps). are_orderly steps ≡ true) e (kept.orderly t).steps))
 offers-plain m kept t _ _ shown (begins e lives doomed there) = refl
 offers-plain m kept t _ _ shown (exits e lives doomed there) = refl
+offers-plain m kept t _ _ shown (stops e lives must) = refl
+offers-plain m kept t _ _ shown (leaves ending) = absurd shown
+offers-plain m kept t Pending.Tick _ shown (tends is started) = absurd shown
+offers-plain m kept t (Pending.TimeOut who) _ shown (tends is started) = absurd shown
+offers-plain m kept t Pending.Expire _ shown (tends is started) = absurd shown
+offers-plain m kept t (Pending.Cut who) _ shown (tends is started) = absurd shown
 offers-plain m kept t (Pending.CleanPair who) _ shown (tends is started) = absurd shown
 offers-plain m kept t Pending.Recycle _ shown (tends is started) = absurd shown
 offers-plain m kept t q _ shown (tends is started) = cc
@@ -153,6 +164,11 @@ privileged-few : (mode : Mode) (steps : Steps) → IsFew steps → IsFew (privil
 privileged-few Mode.User steps h = tt
 privileged-few Mode.Supervisor steps h = h
 
+arms-few : (timeout : Timeout) (steps : Steps) → IsFew steps → IsFew (arms timeout steps)
+arms-few Timeout.NoWait steps h = h
+arms-few (Timeout.Ticks ticks) steps h = tt
+arms-few Timeout.Forever steps h = h
+
 steps-few : (image : Image) (t : ℕ) (me : Thread) (instr : Instr) → IsFew (steps_of image t me instr)
 steps-few image t me (Instr.DomainInit domain parts) = privileged-few me.mode _ tt
 steps-few image t me (Instr.DomainAdd domain part) = privileged-few me.mode _ tt
@@ -161,6 +177,7 @@ steps-few image t me (Instr.DomainMove domain thread) = privileged-few me.mode _
 steps-few image t me (Instr.UserMode script) = privileged-few me.mode _ tt
 steps-few image t me (Instr.AllGrant object) = privileged-few me.mode _ tt
 steps-few image t me (Instr.Revoke object thread) = privileged-few me.mode _ tt
+steps-few image t me (Instr.FutexWait addr value timeout) = arms-few timeout _ tt
 steps-few image t me instr = tt
 
 pub way-few : (rest : Steps) (way : Way) → are_plain rest ≡ true → IsFew (steps_by rest way)
@@ -231,31 +248,50 @@ module _ (image : Image) (c : Context) where
   gone-still rest Next.starts is h o = still-steps rest h o
   gone-still rest next is h o = absurd is
 
-  behind-on : (q : Pending) (act : Act) (came : List ℕ) → has_steps (behind_shown image c q) ≡ true → IsInCall (T.continues image c.thread (as_thread c) 0 q act came)
-  behind-on (Pending.Load to a n) act came some = tt
-  behind-on (Pending.Store a n value) act came some = tt
-  behind-on (Pending.Fetch a) act came some = tt
-  behind-on (Pending.Probe a amount) act came some = tt
-  behind-on (Pending.CopyIn a amount) act came some = tt
-  behind-on (Pending.CopyOut a) act came some = tt
-  behind-on (Pending.CopyStr a) act came some = tt
-  behind-on (Pending.Start who script stack priority mode) act came some = tt
-  behind-on q act came some = absurd (false≢true some)
+  -- what is left behind an event, with a second read of the word where it is to wait
+  abbrev pub left_behind : Pending → FineStep → Todos
+  left_behind q e = waits_behind image q e (behind_shown image c q)
 
-  pub behind-still : (q : Pending) (rest : Steps) (act : Act) (moved : Exchange) → has_steps (behind_shown image c q) ≡ true → are_plain rest ≡ true → InOrder rest
-      → Still (continues image c 0 q rest act moved)
-  behind-still q rest act moved some h o =
-      let came = came_in q moved in
-      gone-still rest (T.continues image c.thread (as_thread c) 0 q act came) (behind-on q act came some) h o
+  rereads-none : (answer : Answer) (todo : Todos) → rereads image answer None todo ≡ todo
+  rereads-none Answer.Wait todo = refl
+  rereads-none (Answer.Now reply) todo = refl
+
+  pub left-none : (q : Pending) (e : FineStep) → noted_cell image (q ∷ []) ≡ None → left_behind q e ≡ behind_shown image c q
+  left-none q e none = ap (λ o. rereads image (answer_in (act_in e.act)) o (behind_shown image c q)) none ∙ rereads-none (answer_in (act_in e.act)) (behind_shown image c q)
+
+  behind-on : (q : Pending) (e : FineStep) (act : Act) (came : List ℕ) → has_steps (left_behind q e) ≡ true → IsInCall (T.continues image c.thread (as_thread c) 0 q act came)
+  behind-on (Pending.Load to a n) e act came some = tt
+  behind-on (Pending.Store a n value) e act came some = tt
+  behind-on (Pending.Fetch a) e act came some = tt
+  behind-on (Pending.Probe a amount) e act came some = tt
+  behind-on (Pending.CopyIn a amount) e act came some = tt
+  behind-on (Pending.CopyOut a) e act came some = tt
+  behind-on (Pending.CopyStr a) e act came some = tt
+  behind-on (Pending.Start who script stack priority mode) e act came some = tt
+  behind-on (Pending.Work a ask) e act came some = tt
+  behind-on (Pending.Join who timeout) e act came some = tt
+  behind-on (Pending.FutexWait a value timeout) e act came some = tt
+  behind-on (Pending.FutexWake a all) e act came some = tt
+  behind-on q e act came some = absurd (false≢true (sym (ap has_steps (left-none q e refl)) ∙ some))
+
+  pub behind-still : (q : Pending) (rest : Steps) (e : FineStep) → has_steps (left_behind q e) ≡ true → are_plain rest ≡ true → InOrder rest
+      → Still (continues image c 0 q rest (act_in e.act) e.moved)
+  behind-still q rest e some h o =
+      let came = came_in q e.moved in
+      gone-still rest (T.continues image c.thread (as_thread c) 0 q (act_in e.act) came) (behind-on q e (act_in e.act) came some) h o
 
 -- and the steps behind these are in order
-pub behind-order : (image : Image) (c : Context) (m : State) (t x : ℕ) (all : AllCreate m) (q : Pending) (rest : Steps) → has_steps (behind_shown image c q) ≡ true → Stands m t x all q rest → InOrder rest
-behind-order image c m t x all (Pending.Load to a n) rest some h = h.1
-behind-order image c m t x all (Pending.Store a n value) rest some h = h.1
-behind-order image c m t x all (Pending.Fetch a) rest some h = h.1
-behind-order image c m t x all (Pending.Probe a amount) rest some h = h.1
-behind-order image c m t x all (Pending.CopyIn a amount) rest some h = h.1
-behind-order image c m t x all (Pending.CopyOut a) rest some h = h.1
-behind-order image c m t x all (Pending.CopyStr a) rest some h = h.1
-behind-order image c m t x all (Pending.Start who script stack priority mode) rest some h = h.1
-behind-order image c m t x all q rest some h = absurd (false≢true some)
+pub behind-order : (image : Image) (c : Context) (m : State) (t x : ℕ) (all : AllCreate m) (q : Pending) (rest : Steps) (e : FineStep) → has_steps (left_behind image c q e) ≡ true → Stands m t x all q rest → InOrder rest
+behind-order image c m t x all (Pending.Load to a n) rest e some h = h.1
+behind-order image c m t x all (Pending.Store a n value) rest e some h = h.1
+behind-order image c m t x all (Pending.Fetch a) rest e some h = h.1
+behind-order image c m t x all (Pending.Probe a amount) rest e some h = h.1
+behind-order image c m t x all (Pending.CopyIn a amount) rest e some h = h.1
+behind-order image c m t x all (Pending.CopyOut a) rest e some h = h.1
+behind-order image c m t x all (Pending.CopyStr a) rest e some h = h.1
+behind-order image c m t x all (Pending.Start who script stack priority mode) rest e some h = h.1
+behind-order image c m t x all (Pending.Work a ask) rest e some h = h.1
+behind-order image c m t x all (Pending.Join who timeout) rest e some h = h.1
+behind-order image c m t x all (Pending.FutexWait a value timeout) rest e some h = h.1
+behind-order image c m t x all (Pending.FutexWake a every) rest e some h = h.1
+behind-order image c m t x all q rest e some h = absurd (false≢true (sym (ap has_steps (left-none image c q e refl)) ∙ some))

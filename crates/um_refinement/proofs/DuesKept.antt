@@ -1,7 +1,10 @@
 -- What the machine's steps make of what is due of its threads: only a thread's own permission on a new thread's object and its end make rows due,
 -- and those are rows; each other step leaves what is due, or fewer rows of it.
-use Rattle.um_refinement.proofs.Words.{◌≡◌, ℕ, zero, suc, ◌+◌, ◌≤◌, Bool, true, false, List, [], ◌∷◌, length, Option, Some, None, refl, sym, ap, ◌∙◌, subst, arith, ◌&&◌, not, slice_index_or, slice_set, false≢true, true≢false, length-map, length-set, Event, Leftover, Image, ROWS, STATIC_ROWS, ThreadIx, own_row, Pending, Thread, with_bytes, Steps, Runs, opening, State, no_rows, nobody, thread_at, with_pair, with_thread, Effect, effect, wrote, Next, gone, went, bytes-leave, OfEach, all_other, effects_of, next_of, woken-by, at_set, all-wrote, is_spared, changed-same, held-same}
+use Rattle.um_refinement.proofs.Words.{list_all, ◌≡◌, ℕ, zero, suc, ◌+◌, ◌≤◌, Bool, true, false, List, [], ◌∷◌, length, None, refl, sym, ap, ◌∙◌, subst, arith, ◌&&◌, not, slice_index_or, slice_set, false≢true, true≢false, length-map, length-set, Event, Leftover, Image, ROWS, STATIC_ROWS, ThreadIx, own_row, Pending, Thread, with_bytes, Steps, Runs, opening, State, no_rows, nobody, thread_at, with_pair, with_thread, Effect, effect, wrote, Next, gone, went, bytes-leave, OfEach, all_other, effects_of, next_of, woken-by, at_set, all-wrote, is_spared, changed-same, held-same}
 use Rattle.um_machine.specs.Table as T
+use Rattle.um_machine.specs.Writes.{Effects}
+use Rattle.um_refinement.proofs.Others.{NoTurn}
+use Rattle.um_machine.specs.Writes.{Flag, flagged}
 use Rattle.um_invariants.proofs.Facts.{set-less as flags-less}
 use Rattle.um_refinement.proofs.CallsProper.{none-held}
 use Rattle.um_refinement.proofs.Erased.{IsReachable}
@@ -30,10 +33,16 @@ module _ (t : ℕ) (Same : State → Type 0) (kept : DuesKeeping t Same) where
   bytes-beside : (s : State) (a : ℕ) (bs : List ℕ) → Same s → Same (with_bytes s a bs)
   bytes-beside s a bs k = kept.beside s (with_bytes s a bs) (bytes-leave (λ (z : State). z.threads) (λ z b. refl) (λ z b. refl) s a bs) (bytes-leave (λ (z : State). z.pairs) (λ z b. refl) (λ z b. refl) s a bs) k
 
+  flag-due : (flag : Flag) (me : Thread) → (flagged flag me).due ≡ me.due
+  flag-due Flag.aborted me = refl
+  flag-due (Flag.suspended on) me = refl
+
   effect-kept : (e : Effect) (s : State) → IsFresh e → Same s → Same (effect e s)
   effect-kept (Effect.wakes woken) s h k = woken-by Same (λ s u told k. kept.same s u _ refl k) woken s k
   effect-kept (Effect.moves who d) s h k = kept.same s who _ refl k
   effect-kept (Effect.dooms who) s h k = kept.same s who _ refl k
+  effect-kept (Effect.flags who flag) s h k = kept.same s who _ (flag-due flag (thread_at s who)) k
+  effect-kept (Effect.cuts who) s h k = kept.same s who _ refl k
   effect-kept (Effect.starts who thread) s h k = kept.fresh s who thread h k
   effect-kept (Effect.pair who x there) s h k = kept.pair s who x there k
   effect-kept (Effect.bytes a bs) s h k = bytes-beside s a bs k
@@ -43,7 +52,7 @@ module _ (t : ℕ) (Same : State → Type 0) (kept : DuesKeeping t Same) where
   went-kept left s Next.stays k = k
   went-kept left s (Next.begins None) k = k
   went-kept left s (Next.resumes None) k = k
-  went-kept left s (Next.on change way) k = kept.same s t _ (changed-same (λ me. me.due) (λ me registers reply buffer. refl) change (thread_at s t)) k
+  went-kept left s (Next.on change way) k = kept.same s t _ (changed-same (λ me. me.due) (λ me registers reply buffer until. refl) change (thread_at s t)) k
   went-kept left s (Next.checks x v way) k = kept.same s t _ (held-same (λ me. me.due) (λ me checked. refl) x v (thread_at s t)) k
   went-kept left s (Next.creates who) k = kept.owns s who.0 (own_row s.image t) _ refl k
   went-kept left s Next.exits k = kept.ends s _ refl k
@@ -52,6 +61,7 @@ module _ (t : ℕ) (Same : State → Type 0) (kept : DuesKeeping t Same) where
 
   fresh-each : (m : State) (x : ℕ) (q : Pending) → OfEach IsFresh (effects_of m t x q)
   fresh-each m x (Pending.Start who script stack priority mode) = (refl, tt)
+  fresh-each m x (Pending.Cut who) = (tt, (tt, tt))
   fresh-each m x q = each-of (is_spared all_other) IsFresh no-start (effects_of m t x q) refl
     where
       no-start : (e : Effect) → is_spared all_other e ≡ true → IsFresh e
@@ -118,6 +128,29 @@ module _ (m : State) (t u : ℕ) (ne : t ≡ u → ⊥) where
   -- a step of one thread makes nothing due of another
   pub others-less : (x : ℕ) (q : Pending) (rest : Steps) → IsLess m u (T.after m t x q rest)
   others-less x q rest = dues-kept m t x (IsLess m u) less-keeping (λ y d. d) q rest
+
+-- and so do the steps by which no thread goes on, of any thread
+module _ (m : State) (u : ℕ) where
+  apart : suc u ≡ u → ⊥
+  apart h = omega (arith, h)
+
+  writes-less : (ws : Effects) → OfEach (IsFresh (suc u) (IsLess m u) (less-keeping m (suc u) u apart)) ws → IsLess m u (wrote ws m)
+  writes-less ws fresh = all-wrote (IsLess m u) (IsFresh (suc u) (IsLess m u) (less-keeping m (suc u) u apart)) (effect-kept (suc u) (IsLess m u) (less-keeping m (suc u) u apart)) ws m fresh (λ y d. d)
+
+  plain-less : (ws : Effects) → list_all (λ (w : Bool × Effect). is_spared all_other w.1) ws ≡ true → IsLess m u (wrote ws m)
+  plain-less ws h = writes-less ws (each-of (is_spared all_other) (IsFresh (suc u) (IsLess m u) (less-keeping m (suc u) u apart)) no-start ws h)
+    where
+      no-start : (e : Effect) → is_spared all_other e ≡ true → IsFresh (suc u) (IsLess m u) (less-keeping m (suc u) u apart) e
+      no-start (Effect.starts who thread) h = absurd (true≢false (sym h))
+      no-start e h = tt
+
+  pub beside-less : (t x : ℕ) (q : Pending) (rest : Steps) → NoTurn m t u q → IsLess m u (T.after m t x q rest)
+  beside-less t x (Pending.Cut who) rest h = writes-less (effects_of m t x (Pending.Cut who)) (tt, (tt, tt))
+  beside-less t x (Pending.TimeOut who) rest h = plain-less (effects_of m t x (Pending.TimeOut who)) refl
+  beside-less t x Pending.Expire rest h = plain-less (effects_of m t x Pending.Expire) refl
+  beside-less t x Pending.Tick rest h = plain-less (effects_of m t x Pending.Tick) refl
+  beside-less t x Pending.Left rest h = plain-less (effects_of m t x Pending.Left) refl
+  beside-less t x q rest h = absurd h
 
 -- Only rows are due.
 

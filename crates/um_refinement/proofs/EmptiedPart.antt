@@ -1,6 +1,11 @@
 -- The pairs that a processor has visited of a thread whose object it cleans stay gone, after every lawful step: nobody gives that thread a
 -- permission, since nobody holds its object.
-use Rattle.um_refinement.proofs.Words.{◌≡◌, ◌⊎◌, inl, inr, ℕ, zero, suc, ◌+◌, ◌<◌, ◌≤◌, Bool, true, false, cond, List, [], ◌∷◌, Some, refl, sym, ap, ◌∙◌, subst, arith, eq-eqb, eq-or-lt_of_le, ◌==◌, ◌&&◌, not, if◌then◌else◌, nat_lt, slice_index_or, slice_set, list_all, and_parts, eqb-false, eqb-true, false≢true, ltb-true, not-true, true≢false, nat_tests, Leftover, Image, ROWS, THREADS, Addr, ThreadIx, own_row, thread_of_row, Status, Pending, Thread, Steps, to_thread, Offers, begins, exits, goes, skips_drops, skips_inherit, is_empty, State, object_at, pair_at, thread_at, with_object, claims, Call, at_set, call_at, call_is, core_of, status_is, IsStatic, IsKnown, FineAct, Unseen, RowWord, has, is_dying, row_in, begins_cleaning, fits, Context, goes_on_by, p_next, row_number, with_cleaned, Todo, Todos, cleaning, with_cleaning, Processor, same_site, FineStep, Site, AreBlocks, Cleans, Fine, one_if, row, cleaned_pairs, counted, has_steps, is_recycle, names_row, recyclers, Fits, Passes, is_over, keeps_now, fits_visit, clean_pairs, IsEmptied, tends}
+use Rattle.um_refinement.proofs.Words.{waits, runs, ◌≡◌, ◌⊎◌, inl, inr, ℕ, zero, suc, ◌+◌, ◌<◌, ◌≤◌, Bool, true, false, cond, List, [], ◌∷◌, Some, refl, sym, ap, ◌∙◌, subst, arith, eq-eqb, eq-or-lt_of_le, ◌==◌, ◌&&◌, not, if◌then◌else◌, nat_lt, slice_index_or, slice_set, list_all, and_parts, eqb-false, eqb-true, false≢true, ltb-true, not-true, true≢false, nat_tests, Leftover, Image, ROWS, THREADS, Addr, ThreadIx, own_row, thread_of_row, Status, Pending, Thread, Steps, to_thread, Offers, begins, exits, goes, skips_drops, skips_inherit, is_empty, State, object_at, pair_at, thread_at, with_object, claims, Call, at_set, call_at, call_is, core_of, status_is, IsStatic, IsKnown, FineAct, Unseen, RowWord, has, is_dying, row_in, begins_cleaning, fits, Context, goes_on_by, p_next, row_number, with_cleaned, Todo, Todos, cleaning, with_cleaning, Processor, same_site, FineStep, Site, AreBlocks, Cleans, Fine, one_if, row, cleaned_pairs, counted, is_recycle, names_row, recyclers, Fits, Passes, is_over, keeps_now, fits_visit, clean_pairs, IsEmptied, tends}
+use Rattle.um_words.specs.declared.fine.Mark.{Mark}
+use Rattle.um_machine.specs.Run.{stops}
+use Rattle.um_machine.specs.Run as Run
+use Rattle.um_refinement.specs.Frames.{AreFramed}
+use Rattle.um_refinement.proofs.ListGrowth.{acted-kept}
 use Rattle.um_machine.specs.Objects as Plain
 use Rattle.um_machine.specs.Table as T
 use Rattle.um_refinement.proofs.CallSteps.{StartsOne}
@@ -12,14 +17,14 @@ use Rattle.um_refinement.proofs.CleaningFacts.{is_birth}
 use Rattle.um_refinement.proofs.Erased.{around, later}
 use Rattle.um_refinement.proofs.FirstThreads.{one-most}
 use Rattle.um_refinement.proofs.HeldRows.{checked-claimed, claimed-kept}
-use Rattle.um_refinement.proofs.Leaves.{Lawful, Leaves}
+use Rattle.um_refinement.proofs.Leaves.{Beside, Lawful, Leaves, cuts, expires, ticks, times_out}
 use Rattle.um_refinement.proofs.Leaves as L
 use Rattle.um_refinement.proofs.ListBlocks.{goes-blocks}
 use Rattle.um_refinement.proofs.ListCounts.{count-cons, goes-count, next-counts, recycles-of, takes-counts}
 use Rattle.um_refinement.proofs.ListGrowth.{ReadsLast, is_clean_pair}
 use Rattle.um_refinement.proofs.ListVisits.{cleaned-apart, cleaned-bounded, cleaned-first, goes-visits, skips-visit}
 use Rattle.um_refinement.proofs.MemorySteps.{part-total}
-use Rattle.um_refinement.proofs.Offered.{IsStep, Shows, own-part, shown-offers, shown-on}
+use Rattle.um_refinement.proofs.Offered.{own-unless, runs-first, IsStep, Shows, own-part, shown-offers, shown-on}
 use Rattle.um_refinement.proofs.PairsKept.{pairs-same}
 use Rattle.um_refinement.proofs.PairsPart.{dropped-pairs}
 use Rattle.um_refinement.proofs.RowsPart.{rows-part}
@@ -72,6 +77,8 @@ keeps-own m known t q rest (skips_inherit {who} e due) h = keeps_now m t (Pendin
 keeps-own m known t q rest (skips_drops {from} e due) h = keeps_now m t (Pending.Drops from) (q ∷ rest) known e
 keeps-own m known t _ _ (begins e lives doomed there) h = absurd (false≢true h)
 keeps-own m known t _ _ (exits e lives doomed there) h = absurd (false≢true h)
+keeps-own m known t _ _ (stops rests lives must) h = absurd (false≢true h)
+keeps-own m known t _ _ (Run.leaves ending) h = absurd (false≢true h)
 keeps-own m known t (Pending.CleanPair who) _ (tends is started) h = absurd (false≢true h)
 keeps-own m known t Pending.Recycle _ (tends is started) h = absurd (false≢true h)
 keeps-own m known t q _ (tends is started) h = cc
@@ -117,10 +124,10 @@ module _ (f : Fine) (m : State) (e : FineStep) (law : Lawful f m e) (gives : Giv
     unclaimed claimed = let none = (claimed-kept f m law.rel x few claimed).1 in omega (arith, some, none)
 
     -- the call of the thread that makes the step doesn't hold it
-    unheld : has_steps p.todo ≡ true → is_over p.context ≡ false → slice_index_or (thread_at m p.context.thread).checked x false ≡ true → ⊥
+    unheld : runs p ≡ true → is_over p.context ≡ false → slice_index_or (thread_at m p.context.thread).checked x false ≡ true → ⊥
     unheld running on held = unclaimed (checked-claimed f m law.rel e.cpu x law.by.named few running on held)
 
-    unnamed : has_steps p.todo ≡ true → is_over p.context ≡ false → IsStatic m.image (thread_at m p.context.thread).checked x → ⊥
+    unnamed : runs p ≡ true → is_over p.context ≡ false → IsStatic m.image (thread_at m p.context.thread).checked x → ⊥
     unnamed running on (inl l) = live-gone (object_at m x).status (ap Plain.is_live (sym (status_is m x)) ∙ law.sound.known.reached.static x l) gone
     unnamed running on (inr r) = unheld running on r.1
 
@@ -138,7 +145,7 @@ module _ (f : Fine) (m : State) (e : FineStep) (law : Lawful f m e) (gives : Giv
       where
         other : w.0 ≡ who → ⊥
         other same =
-            unnamed (ap has_steps h.at) (shown-on h)
+            unnamed (runs-first law.rel law.by.named (Todo.show h.listed rest) todo h.at (λ hand. hand)) (shown-on h)
             (subst (IsStatic m.image (thread_at m p.context.thread).checked) (ap (own_row m.image) same ∙ same-row) (gives.grants p.context.thread w a rest (shown-offers h)))
 
         by : (b : Bool) → pair_at (with_given_if b m w.0 (T.row_of m a)) who y ≡ false
@@ -171,7 +178,7 @@ module _ (f : Fine) (m : State) (e : FineStep) (law : Lawful f m e) (gives : Giv
     -- permissions are passed on to a thread whose object is held
     passes-on : (w y : ℕ) (todo : Todos) → p.todo ≡ Todo.pass w y ∷ todo → w ≡ who → ⊥
     passes-on w y todo at same =
-        unheld (ap has_steps at) on
+        unheld (runs-first law.rel law.by.named (Todo.pass w y) todo at (λ hand. hand)) on
         (sym (ap (λ (c : Call). slice_index_or c.checked x false) (call_is m p.context.thread))
         ∙ (ap (λ r. slice_index_or (call_at (core_of m) p.context.thread).checked r false) (sym (ap (own_row m.image) (fits.same ∙ same) ∙ same-row)) ∙ held))
       where
@@ -182,7 +189,9 @@ module _ (f : Fine) (m : State) (e : FineStep) (law : Lawful f m e) (gives : Giv
         on = over-not p.context (Pending.Inherit fits.child) (fits.step ∷ fits.rest) fits.pending
 
         pending : (thread_at m p.context.thread).pending ≡ Pending.Inherit fits.child ∷ fits.step ∷ fits.rest
-        pending = sym (ap (λ (z : Thread). z.pending) ((law.rel.contexts.running e.cpu law.by.named (ap has_steps at)).of on).own) ∙ fits.pending
+        pending =
+            let of = (law.rel.contexts.running e.cpu law.by.named (runs-first law.rel law.by.named (Todo.pass w y) todo at (λ hand. hand))).of on in
+            sym (ap (λ (z : Thread). z.pending) (own-unless of (ap waits fits.pending))) ∙ fits.pending
 
         held : slice_index_or (call_at (core_of m) p.context.thread).checked (own_row m.image fits.child.0) false ≡ true
         held =
@@ -199,6 +208,14 @@ module _ (f : Fine) (m : State) (e : FineStep) (law : Lawful f m e) (gives : Giv
     away _ (L.drops from z rest todo v said) y h = drop-away m p.context.thread z who y h
     away _ (L.cleans w z rest todo v said) y h = drop-away (with_cleaner m p.context.thread (own_row m.image w)) w z who y h
     away _ (L.recycles z rest todo at l said chosen) y h = h
+    away _ (L.beside t n q how chosen started) y h = ap (λ (all : List (List Bool)). slice_index_or (slice_index_or all y []) who false) (on-beside t n q how) ∙ h
+      where
+        on-beside : (t n : ℕ) (q : Pending) → Beside f m e t n q → (T.after m t n q (thread_at m t).pending).pairs ≡ m.pairs
+        on-beside t n _ (cuts w site before _ todo at place inside said) = pairs-same m t n (Pending.Cut (to_thread w)) (thread_at m t).pending tt
+        on-beside t n _ (times_out deadline site _ w todo at place inside said) = pairs-same m t n (Pending.TimeOut w) (thread_at m t).pending tt
+        on-beside t n _ (expires deadline z todo at inside said) = pairs-same m t n Pending.Expire (thread_at m t).pending tt
+        on-beside t n _ (ticks at said) = pairs-same m t n Pending.Tick (thread_at m t).pending tt
+        on-beside t n _ (L.leaves todo at said) = pairs-same m t n Pending.Left (thread_at m t).pending tt
 
   -- How far the visits are.
 
@@ -235,7 +252,9 @@ module _ (f : Fine) (m : State) (e : FineStep) (law : Lawful f m e) (gives : Giv
         before = let c = ap Recs at ∙ count-cons (is_recycle x) q todo in omega (arith, c)
 
         list : (b : Bool) → begins_cleaning e ≡ b → now.todo ≡ (with_cleaned f.image (goes_on_by f.image p e (q ∷ todo)) e b).todo
-        list b k = λ i. (with_cleaned f.image (goes_on_by f.image p e (at i)) e (k i)).todo
+        list b k =
+            acted-kept f.image (λ (z : Todos). z ≡ (with_cleaned f.image (goes_on_by f.image p e (q ∷ todo)) e b).todo) (with_cleaned f.image (goes_on_by f.image p e p.todo) e (begins_cleaning e)) e.act
+            (λ i. (with_cleaned f.image (goes_on_by f.image p e (at i)) e (k i)).todo)
 
         by-row : begins_cleaning e ≡ true → (b : Bool) → (x == row_number e.site) ≡ b
             → (At now.todo ≡ 0) ⊎ ((At now.todo ≡ At (goes_on_by f.image p e (q ∷ todo)).todo) × (0 < Recs p.todo))
@@ -249,7 +268,7 @@ module _ (f : Fine) (m : State) (e : FineStep) (law : Lawful f m e) (gives : Giv
             inl
             (ap At (list true k)
             ∙ (ap (λ n. At (with_cleaning (cleaning f.image n) (goes_on_by f.image p e (q ∷ todo)).todo)) (sym (eqb-true x (row_number e.site) r))
-            ∙ cleaned-first f.image who x own thread (goes_on_by f.image p e (q ∷ todo)).todo (goes-blocks f.image p e (q ∷ todo) blocks (subst (AreBlocks f.image) at blocks))
+            ∙ cleaned-first f.image who x own thread (goes_on_by f.image p e (q ∷ todo)).todo (goes-blocks f.image p e (q ∷ todo) (subst (AreFramed f.image) at (law.rel.processors e.cpu law.by.named).frames) blocks (subst (AreBlocks f.image) at blocks))
             (omega (arith, counted-left, recs, g, one, changed, part))))
         by-row k false r =
             let g : gain f m e law x few (begins_cleaning e) (row_number e.site) ≡ 0 = ap (λ b. gain f m e law x few b (row_number e.site)) k ∙ ap one_if r in
@@ -354,7 +373,7 @@ module _ (f : Fine) (m : State) (e : FineStep) (law : Lawful f m e) (gives : Giv
           visit m (L.nothing u said) some v z todo at
           (λ same. ap (λ n. pair_at m n z) (sym same) ∙ looked-none v z todo at (visit-is f m e law x few u _ said (made-says f m e law (Todo.clean_pair v z ∷ todo) at))) y l
       by (q ∷ todo) at = plain m (L.nothing u said) some q todo at tt refl y l
-  emptied-mine s (L.event q rest todo n h shown is) some y l = plain _ (L.event q rest todo n h shown is) some (Todo.show q rest) todo h.at (last-shown q rest todo h.at) refl y l
+  emptied-mine s (L.event q rest todo n h shown is) some y l = plain _ (L.event q rest todo n h shown is) some (Todo.show h.listed rest) todo h.at (last-shown h.listed rest todo h.at) refl y l
   emptied-mine s (L.resumes c told rest at moved said) some y l = none-taken _ (L.resumes c told rest at moved said) some at
   emptied-mine s (L.passes w z rest todo h said) some y l = plain _ (L.passes w z rest todo h said) some (Todo.pass w z) todo h.at tt refl y l
   emptied-mine s (L.drops from z rest todo h said) some y l = plain _ (L.drops from z rest todo h said) some (Todo.drop z) todo h.at tt refl y l
@@ -367,6 +386,14 @@ module _ (f : Fine) (m : State) (e : FineStep) (law : Lawful f m e) (gives : Giv
           ap (λ (flags : List Bool). slice_index_or flags who false) (dropped-pairs (with_cleaner m p.context.thread (own_row m.image w)) w z (omega (arith, long, small)))
           ∙ (ap (λ n. slice_index_or (slice_set (slice_index_or m.pairs z []) n false) who false) same ∙ set-here (slice_index_or m.pairs z []) who)
   emptied-mine s (L.recycles z rest todo at small said chosen) some y l = plain _ (L.recycles z rest todo at small said chosen) some (Todo.recycle z) todo at tt refl y l
+  emptied-mine s (L.beside t n q how chosen started) some y l = on-beside t n q how (L.beside t n q how chosen started) some
+    where
+      on-beside : (t n : ℕ) (q : Pending) → Beside f m e t n q → Leaves f m e (T.after m t n q (thread_at m t).pending) → 0 < Recs now.todo → pair_at (T.after m t n q (thread_at m t).pending) who y ≡ false
+      on-beside t n _ (cuts w site before _ todo at place inside said) left some = plain _ left some (Todo.look w site before) todo at tt refl y l
+      on-beside t n _ (times_out deadline site _ w todo at place inside said) left some = plain _ left some (Todo.handle deadline (Mark.Thread w site)) todo at tt refl y l
+      on-beside t n _ (expires deadline z todo at inside said) left some = plain _ left some (Todo.handle deadline (Mark.Timer z)) todo at tt refl y l
+      on-beside t n _ (ticks at said) left some = none-taken _ left some at
+      on-beside t n _ (L.leaves todo at said) left some = plain _ left some Todo.leave todo at tt refl y l
 
   pub emptied-part : (s : State) → Leaves f m e s → (k : ℕ) → k < f.cpus → Cleans (later f e) k x → (y : ℕ) → y < cleaned_pairs who ((later f e).processors k).todo → pair_at s who y ≡ false
   emptied-part s leaves k l = by (e.cpu == k) refl

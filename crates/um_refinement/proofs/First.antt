@@ -1,5 +1,5 @@
--- Parts of the relation hold at the opening, where no processor runs a thread: what is of processors, words, domains and memory.
-use Rattle.um_refinement.proofs.Words.{◌≡◌, ℕ, zero, suc, List, [], ◌∷◌, Option, Some, None, refl, sym, subst, arith, IsTrue, slice_index_or, false≢true, Image, opening, FineStep, Site, is_sort, s_next, same_site, s_start, state_at, p_start, site_of, Fine, heap, row, total, ListIs, WordIs, AreBlocks, MemoryIs, ends, sublist, LooksAre, IdleIs, DomainKept, HeldIs, RunningIs, CleaningIs, DomainIs, TableIs}
+-- Parts of the relation hold at the opening, where no processor runs a thread: what is of processors and domains.
+use Rattle.um_refinement.proofs.Words.{◌≡◌, ℕ, zero, suc, List, [], ◌∷◌, Option, Some, None, refl, sym, subst, arith, IsTrue, slice_index_or, false≢true, Image, opening, FineStep, Site, is_sort, s_next, same_site, s_start, state_at, p_start, site_of, Fine, heap, row, total, ListIs, AreBlocks, ends, sublist, LooksAre, IdleIs, DomainKept, HeldIs, RunningIs, CleaningIs, DomainIs, TableIs}
 use Rattle.um_refinement.proofs.Erased.{fine}
 use Rattle.um_refinement.proofs.RowSteps.{sort-next}
 
@@ -34,14 +34,8 @@ module _ (image : Image) where
     pub lists-first : (k : ℕ) → ListIs image (first.processors k)
     lists-first k = record { fits = tt }
 
-    pub words-first : (t : ℕ) → WordIs first (opening image) t
-    words-first t = record { life = refl; doomed = refl; mode = refl; domain = refl }
-
     pub pairs-first : (x : ℕ) → (row first x).permissions ≡ slice_index_or (opening image).pairs x []
     pairs-first x = refl
-
-    pub memory-first : MemoryIs first (opening image)
-    memory-first = record { memory = refl; stacks = refl }
 
     pub pools-first : (heap first).pools ≡ (opening image).pools
     pools-first = refl

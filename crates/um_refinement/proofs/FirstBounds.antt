@@ -3,11 +3,11 @@ use Rattle.um_refinement.proofs.Words.{◌≡◌, ℕ, zero, suc, ◌<◌, Bool,
 use Rattle.um_refinement.proofs.Bounds.{AreBounded}
 use Rattle.um_refinement.proofs.CallBounds.{Bounded}
 use Rattle.um_refinement.proofs.CallBoundsKept.{IsBounded}
-use Rattle.um_refinement.proofs.First.{first}
+use Rattle.um_refinement.proofs.First.{first, none-some}
 use Rattle.um_refinement.proofs.FirstLawful.{boot-is}
 use Rattle.um_refinement.proofs.FirstObjects.{opening-image}
 use Rattle.um_refinement.proofs.FirstReady.{entry, threads-are}
-use Rattle.um_refinement.proofs.FirstThreads.{loaded-threads, new-thread, nobodies, parked-first}
+use Rattle.um_refinement.proofs.FirstThreads.{no-sleeper, uncut-first, loaded-threads, new-thread, nobodies, parked-first}
 
 passes-inside : (p : ObjectDef → Bool) (os : List ObjectDef) (x : ℕ) → object_passes p (slice_get os x) ≡ true → x < length os
 passes-inside p [] x h = absurd (false≢true h)
@@ -57,6 +57,8 @@ module _ (image : Image) (described : IsDescribed image) where
           running = λ k l h. absurd (false≢true h);
           parked = parked-bounded;
           added = λ k c l h. absurd h;
+          asleep = λ t c h. absurd (none-some (sym (no-sleeper THREADS t) ∙ h));
+          uncut = λ t past. uncut-first image cpus t;
           inside = λ t h. refl;
           ready = ap (λ (i : Image). list_all (λ t. nat_lt t THREADS) (map (entry i) i.boots)) (opening-image image) ∙ entries-below image.boots described.lawful.boots;
         }

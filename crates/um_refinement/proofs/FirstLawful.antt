@@ -1,10 +1,16 @@
 -- The relation holds at the opening of every image that a description can give: its boot entries have a thread each, whose object stands.
-use Rattle.um_refinement.proofs.Words.{◌≡◌, ◌⊎◌, inl, inr, ℕ, ◌+◌, ◌<◌, ◌≤◌, Bool, true, false, List, [], ◌∷◌, length, refl, sym, ap, ◌∙◌, subst, arith, ◌==◌, ◌||◌, if◌then◌else◌, slice_get, slice_index_or, list_all, list_any, and_parts, eqb-false, eqb-true, false≢true, not-true, true≢false, Boot, Image, ObjectDef, THREADS, is_lawful_boot, object_passes, own_row, Object, Thread, blank, boot_thread, booted, booted_one, loaded, objects_from, opening, Runs, State, nobody, object_at, thread_at, vacant, with_thread, IsDescribed, is_sited, FineStep, s_next, same_site, s_start, p_next, state_at, IsFineRun, cpu_of, p_start, same_cpu, site_of, shown, Rel, occurs, are_distinct, IsBoot, is_boot, map}
+use Rattle.um_refinement.proofs.Words.{IsTrue, Life, eq-eqb, ◌≡◌, ◌⊎◌, inl, inr, ℕ, ◌+◌, ◌<◌, ◌≤◌, Bool, true, false, List, [], ◌∷◌, length, refl, sym, ap, ◌∙◌, subst, arith, ◌==◌, ◌||◌, if◌then◌else◌, slice_get, slice_index_or, list_all, list_any, and_parts, eqb-false, eqb-true, false≢true, not-true, true≢false, Boot, Image, ObjectDef, THREADS, is_lawful_boot, object_passes, own_row, Object, Thread, blank, boot_thread, booted, booted_one, loaded, objects_from, opening, Runs, State, nobody, object_at, thread_at, vacant, with_thread, IsDescribed, is_sited, FineStep, s_next, same_site, s_start, p_next, state_at, IsFineRun, cpu_of, p_start, same_cpu, site_of, shown, Rel, occurs, are_distinct, IsBoot, is_boot, map}
 use Rattle.um_machine.specs.Objects as Plain
+use Rattle.um_machine.specs.Run.{boots_row, is_set_up}
+use Rattle.um_machine.specs.State.{is_living, is_started}
+use Rattle.um_invariants.proofs.ThreadStarts.{real-below}
+use Rattle.um_fine.specs.Processor.{first_boot}
 use Rattle.um_refinement.proofs.Erased.{Keeps, erased, fine}
 use Rattle.um_refinement.proofs.First.{first}
 use Rattle.um_refinement.proofs.FirstObjects.{OwnStands, Stood, opening-objects, stood-or-none}
-use Rattle.um_refinement.proofs.FirstReady.{OneEach, blank-image, entry, threads-are}
+use Rattle.um_refinement.proofs.FirstOwned.{owned-first}
+use Rattle.um_refinement.proofs.FirstReady.{OneEach, blank-image, entry, living-first, one-more, positive, threads-are}
+use Rattle.um_refinement.proofs.FirstStops.{HasActor, OwnMarked}
 use Rattle.um_refinement.proofs.FirstThreads.{granted-image, loaded-threads, nobodies}
 use Rattle.um_refinement.proofs.Opens.{opens}
 use Rattle.um_refinement.proofs.ThreadLists.{set-else}
@@ -91,6 +97,51 @@ module _ (image : Image) (described : IsDescribed image) where
       by (inl r) = ap (λ (o : Object). Plain.is_live o.status) r.2
       by (inr r) = let past = r.1 in absurd (omega (arith, l, past))
 
+  -- an object that a boot entry has as its thread or its stack is marked
+  marked-at : (x : ℕ) → x < length image.objects → list_any (boots_row x) image.boots ≡ true → (object_at (opening image) x).init ≡ true
+  marked-at x l boots =
+      subst (λ (os : List Object). (slice_index_or os x vacant).init ≡ true) (sym (opening-objects image)) (by (stood-or-none image.boots 0 image.objects x))
+    where
+      or-last : (a b : Bool) → b ≡ true → (a || b) ≡ true
+      or-last true b h = refl
+      or-last false b h = h
+
+      by : Stood image.boots 0 image.objects x ⊎ ((slice_index_or (objects_from image.boots 0 image.objects) x vacant ≡ vacant) × (length image.objects ≤ x))
+          → (slice_index_or (objects_from image.boots 0 image.objects) x vacant).init ≡ true
+      by (inl r) =
+          let at : x ≡ 0 + x = omega arith in
+          ap (λ (o : Object). o.init) r.2 ∙ or-last (is_set_up r.0.setup) (list_any (boots_row (0 + x)) image.boots) (ap (λ n. list_any (boots_row n) image.boots) (sym at) ∙ boots)
+      by (inr r) = let past = r.1 in absurd (omega (arith, l, past))
+
+  -- a thread of these entries is one of a lawful entry
+  booter : (boots : List Boot) (t : ℕ) → list_all (is_lawful_boot image) boots ≡ true → positive (occurs t (map (entry image) boots)) ≡ true
+      → (boot : Boot) × (is_lawful_boot image boot ≡ true) × (entry image boot ≡ t) × (list_any (boots_row boot.thread.0) boots ≡ true)
+  booter [] t h some = absurd (false≢true some)
+  booter (boot ∷ boots) t h some = by (t == entry image boot) refl (booter boots t (and_parts _ _ h).1)
+    where
+      or-last : (a b : Bool) → b ≡ true → (a || b) ≡ true
+      or-last true b h = refl
+      or-last false b h = h
+
+      by : (b : Bool) → (t == entry image boot) ≡ b
+          → (positive (occurs t (map (entry image) boots)) ≡ true → (z : Boot) × (is_lawful_boot image z ≡ true) × (entry image z ≡ t) × (list_any (boots_row z.thread.0) boots ≡ true))
+          → (z : Boot) × (is_lawful_boot image z ≡ true) × (entry image z ≡ t) × (list_any (boots_row z.thread.0) (boot ∷ boots) ≡ true)
+      by true q more =
+          (boot, (and_parts _ _ h).0, sym (eqb-true t (entry image boot) q), ap (λ b. (b || boot.stack.0 == boot.thread.0) || list_any (boots_row boot.thread.0) boots) (eq-eqb boot.thread.0 boot.thread.0 refl))
+      by false q more =
+          let r = more (sym (ap (λ c. positive (if c then occurs t (map (entry image) boots) + 1 else occurs t (map (entry image) boots))) q) ∙ some) in
+          (r.0, r.1, r.2, or-last (boots_row r.0.thread.0 boot) _ r.3)
+
+  -- the thread of the first entry is one of them
+  first-lives : (boots : List Boot) → list_all (is_lawful_boot image) boots ≡ true → 0 < length boots
+      → (positive (occurs (first_boot image boots) (map (entry image) boots)) ≡ true) × (first_boot image boots < THREADS)
+  first-lives [] h some = absurd (omega (arith, some))
+  first-lives (boot ∷ boots) h some =
+      let t = entry image boot in (
+        ap (λ c. positive (if c then occurs t (map (entry image) boots) + 1 else occurs t (map (entry image) boots))) (eq-eqb t t refl) ∙ one-more (occurs t (map (entry image) boots)),
+        real-below image described.lawful t (boot-is boot (and_parts _ _ h).0).real,
+      )
+
   module _ (cpus : ℕ) where
     one-each : OneEach image cpus
     one-each t = one-has image.boots t described.lawful.boots described.lawful.boot_threads
@@ -105,8 +156,24 @@ module _ (image : Image) (described : IsDescribed image) where
             subst (λ x. Plain.is_live (object_at (opening image) x).status ≡ true) (sym boot.own ∙ ap (own_row image) r.2) (live-at r.0.thread.0 boot.inside)
         by (inr k) = absurd (true≢false (sym k ∙ keeps-none t))
 
+    own-marked : OwnMarked image
+    own-marked t few lives =
+        let r = booter image.boots t described.lawful.boots (sym (living-first image cpus t few) ∙ lives) in
+        let boot = boot-is r.0 r.1 in
+        subst (λ x. (object_at (opening image) x).init ≡ true) (sym boot.own ∙ ap (own_row image) r.2) (marked-at r.0.thread.0 boot.inside r.3)
+
+    has-actor : HasActor image
+    has-actor some =
+        let r = first-lives image.boots described.lawful.boots some in
+        started (thread_at (opening image) (first_boot image image.boots)).life (living-first image cpus (first_boot image image.boots) r.1 ∙ r.0)
+      where
+        started : (life : Life) → is_living life ≡ true → IsTrue (is_started life)
+        started Life.Living h = refl
+        started Life.Unborn h = absurd (false≢true h)
+        started Life.Ended h = absurd (false≢true h)
+
     pub opens-described : Rel (first image cpus) (opening image)
-    opens-described = opens image cpus described.few one-each own-stands
+    opens-described = opens image cpus described.few one-each own-stands own-marked (λ t few own init. owned-first image described boot-is t few own init) has-actor
 
     -- so the events of every fine run are a run of the access-matrix machine, where each lawful step keeps the relation
     pub erased-described : Keeps image cpus → (h : List FineStep) → IsFineRun image cpus h

@@ -3,6 +3,7 @@
 use Rattle.um_refinement.proofs.Words.{◌≡◌, ◌≢◌, ◌⊎◌, inl, inr, ℕ, zero, suc, ◌+◌, ◌<◌, ◌≤◌, Bool, true, false, List, [], ◌∷◌, length, replicate, Option, Some, None, refl, sym, ap, ◌∙◌, subst, arith, length-map, ◌==◌, ◌&&◌, ◌||◌, not, is_some, nat_le, slice_get, slice_index_or, and_parts, eqb-true, false≢true, leb-true, Boot, Image, ObjectDef, ROWS, STATIC_ROWS, THREADS, own_row, Object, Thread, blank, loaded, objects_from, opening, State, nobody, object_at, thread_at, vacant, Stage, is_dying, is_free, Context, kind_of, parked_at, one_if, over_processors, row, scheduler, total, call_claims, context_claims, CleanersAre, PairsAre, cell_of, is_reserved, recyclers, status_of, vacaters, HeapIs, occurs, Partition, opening_object, count, indexed, stage_of, CleanerIs, ContentsAre, StatusIs, empty_cell, ◌-◌, map}
 use Rattle.um_machine.specs.declared.object.Status.TheVariants as Status
 use Rattle.um_machine.specs.Objects as Plain
+use Rattle.um_fine.specs.Opening.{no_notes}
 use Rattle.um_fine.specs.Processor.{kind_in}
 use Rattle.um_refinement.specs.Claims.{ClaimsAre, claims, creates}
 use Rattle.um_refinement.proofs.First.{first, total-none}
@@ -60,7 +61,7 @@ record IsSet (image : Image) (x : ℕ) (o : Object) : Type 0 where
   kind : o.status ≢ Status.Free → o.kind ≡ kind_of image x
   cost : o.cost ≡ None
   cleaner : o.cleaner ≡ None
-  vacant : Plain.is_free o.status ≡ true → cell_of o ≡ empty_cell
+  vacant : (noted : List ℕ) → Plain.is_free o.status ≡ true → cell_of noted o ≡ empty_cell noted
   dynamic : length image.objects ≤ x → Plain.is_free o.status ≡ true
 
 new-object : (image : Image) (x : ℕ) → IsSet image x (object_at (opening image) x)
@@ -84,12 +85,12 @@ new-object image x =
           kind = λ free. sym (ap (λ o. kind_in o x) r.1);
           cost = refl;
           cleaner = refl;
-          vacant = λ free. absurd (false≢true free);
+          vacant = λ noted free. absurd (false≢true free);
           dynamic = λ past. let l = found image.objects x r.0 r.1 in absurd (omega (arith, l, past));
         })
     by (inr r) =
         subst (IsSet image x) (sym r.0)
-        (record { status = refl; stage = inr refl; bare = λ free. (refl, refl); gone = refl; kind = λ free. absurd (free refl); cost = refl; cleaner = refl; vacant = λ free. refl; dynamic = λ past. refl })
+        (record { status = refl; stage = inr refl; bare = λ free. (refl, refl); gone = refl; kind = λ free. absurd (free refl); cost = refl; cleaner = refl; vacant = λ noted free. refl; dynamic = λ past. refl })
 
 module _ (image : Image) (cpus : ℕ) where
   none-vacates : (x : ℕ) → vacaters (first image cpus) x ≡ 0
@@ -115,7 +116,7 @@ module _ (image : Image) (cpus : ℕ) where
       record {
         whole = λ h. refl;
         cleared = λ h. let r = none-recycles x in absurd (omega (arith, h, r));
-        vacant = (new-object image x).vacant;
+        vacant = (new-object image x).vacant no_notes;
       }
 
   -- no row is in cleaning

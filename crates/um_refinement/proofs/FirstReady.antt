@@ -1,15 +1,16 @@
 -- The ready list at the opening: each thread of a boot entry stands in it once, where no two entries have one thread.
 use Rattle.um_refinement.proofs.Words.{◌≡◌, ℕ, zero, suc, ◌+◌, ◌<◌, ◌≤◌, Bool, true, false, List, [], ◌∷◌, length, Option, Some, None, refl, sym, ap, ◌∙◌, subst, arith, ◌==◌, ◌||◌, not, if◌then◌else◌, is_some, slice_index_or, slice_set, eqb-false, eqb-true, Boot, Image, THREADS, thread_of_row, Thread, blank, boot_thread, booted, booted_one, index_or, loaded, opening, State, is_living, nobody, thread_at, with_thread, Context, parked_at, told_at, waits, one_if, scheduler, is_ready_there, occurs, or-false, ReadyIs, map}
+use Rattle.um_fine.specs.Scheduler.{is_cut}
 use Rattle.um_refinement.proofs.First.{first}
 use Rattle.um_refinement.proofs.FirstObjects.{loaded-image, opening-image}
 use Rattle.um_refinement.proofs.FirstThreads.{copies-long, granted-image, granted-threads, living-parked, loaded-threads, new-thread, nobodies, parked-first, set-long}
 use Rattle.um_refinement.proofs.ThreadLists.{at-here, set-else}
 
-abbrev positive : ℕ → Bool
+abbrev pub positive : ℕ → Bool
 positive zero = false
 positive (suc n) = true
 
-one-more : (n : ℕ) → positive (n + 1) ≡ true
+pub one-more : (n : ℕ) → positive (n + 1) ≡ true
 one-more n = let e : n + 1 ≡ suc n = omega arith in ap positive e
 
 or-true : (b : Bool) → (b || true) ≡ true
@@ -76,7 +77,7 @@ module _ (image : Image) (cpus : ℕ) where
   abbrev pub OneEach : Type 0
   OneEach = (t : ℕ) → occurs t (map (entry image) image.boots) ≤ 1
 
-  living-first : (t : ℕ) → t < THREADS → is_living (thread_at (opening image) t).life ≡ positive (occurs t (map (entry image) image.boots))
+  pub living-first : (t : ℕ) → t < THREADS → is_living (thread_at (opening image) t).life ≡ positive (occurs t (map (entry image) image.boots))
   living-first t l =
       booted-lives image image.boots (loaded image.partitions (blank image)) t (blank-image image) (subst (λ n. t < n) (sym (blank-long image)) l)
       ∙ (ap (λ b. positive (occurs t (map (entry image) image.boots)) || b) (blank-dead image t) ∙ or-false (positive (occurs t (map (entry image) image.boots))))
@@ -90,16 +91,16 @@ module _ (image : Image) (cpus : ℕ) where
   at-most-one (suc (suc n)) l = absurd (omega (arith, l))
 
   ready-there : (t : ℕ) → t < THREADS → is_living (thread_at (opening image) t).life
-      ≡ is_ready_there (parked_at (scheduler (first image cpus)) t) (told_at (scheduler (first image cpus)) t)
+      ≡ is_ready_there (parked_at (scheduler (first image cpus)) t) (told_at (scheduler (first image cpus)) t) (is_cut (scheduler (first image cpus)) t)
   ready-there t l = by (parked_at (scheduler (first image cpus)) t) refl
     where
       by : (o : Option Context) → parked_at (scheduler (first image cpus)) t ≡ o
-          → is_living (thread_at (opening image) t).life ≡ is_ready_there o (told_at (scheduler (first image cpus)) t)
+          → is_living (thread_at (opening image) t).life ≡ is_ready_there o (told_at (scheduler (first image cpus)) t) (is_cut (scheduler (first image cpus)) t)
       by None e = living-parked 0 (opening image).threads t (ap is_some e)
       by (Some c) e =
           let r = parked-first image cpus t c e in
           r.0
-          ∙ sym (ap (λ w. not w || is_some (told_at (scheduler (first image cpus)) t)) (ap (λ (z : Context). waits z.pending) r.1 ∙ ap waits (new-thread image t).rests))
+          ∙ sym (ap (λ w. not w || is_some (told_at (scheduler (first image cpus)) t) || is_cut (scheduler (first image cpus)) t) (ap (λ (z : Context). waits z.pending) r.1 ∙ ap waits (new-thread image t).rests))
 
   pub ready-first : OneEach → (t : ℕ) → t < THREADS → ReadyIs (first image cpus) t
   ready-first one t l =

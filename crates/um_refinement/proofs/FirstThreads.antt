@@ -1,7 +1,13 @@
 -- Threads at the opening: each is none or that of a boot entry. So what they are told, their own parts, those that lie nowhere and what
 -- is due are as the relation says.
-use Rattle.um_refinement.proofs.Words.{◌≡◌, ◌≢◌, inl, ℕ, zero, suc, ◌+◌, ◌<◌, ◌≤◌, Bool, true, false, List, [], ◌∷◌, length, replicate, Option, Some, None, refl, sym, ap, ◌∙◌, subst, arith, is_some, slice_index_or, slice_set, unwrap_or, false≢true, true≢false, Told, Boot, Image, ROWS, THREADS, Row, thread_of_row, Life, Thread, with_bytes, blank, boot_thread, booted, booted_one, index_or, loaded, opening, State, is_living, is_started, no_rows, nobody, thread_at, with_pair, with_thread, Context, parked_at, told_at, one_if, scheduler, total, adders, counted, is_wake, of_thread, IsOf, is_ended, runs_on, told_by, bytes-leave, Partition, granted, context_of, indexed, parked_if, AwayIs, ContextsAre, SchedulerIs, ToldIs, DuesAre}
-use Rattle.um_refinement.proofs.First.{first}
+use Rattle.um_refinement.proofs.Words.{MemoryIs, WordIs, as_thread, ◌≡◌, ◌≢◌, inl, ℕ, zero, suc, ◌+◌, ◌<◌, ◌≤◌, Bool, true, false, List, [], ◌∷◌, length, replicate, Option, Some, None, refl, sym, ap, ◌∙◌, subst, arith, is_some, slice_index_or, slice_set, unwrap_or, false≢true, true≢false, Told, Boot, Image, ROWS, THREADS, Row, thread_of_row, Life, Thread, with_bytes, blank, boot_thread, booted, booted_one, index_or, loaded, opening, State, is_living, is_started, no_rows, nobody, thread_at, with_pair, with_thread, Context, parked_at, told_at, one_if, scheduler, total, adders, counted, is_wake, of_thread, IsOf, is_ended, runs_on, told_by, bytes-leave, Partition, granted, context_of, indexed, parked_if, AwayIs, ContextsAre, SchedulerIs, ToldIs, DuesAre}
+use Rattle.um_fine.specs.Joins.{asleep_at}
+use Rattle.um_fine.specs.Scheduler.{is_cut}
+use Rattle.um_refinement.specs.Fine.{joins}
+use Rattle.um_refinement.specs.Lists.{is_cut_told}
+use Rattle.um_refinement.specs.Threads.{as_cut, cutters}
+use Rattle.um_refinement.proofs.First.{first, none-some}
+use Rattle.um_refinement.proofs.HeldRows.{none-flagged}
 
 -- What each thread of a list is.
 
@@ -96,6 +102,14 @@ no-told zero t = refl
 no-told (suc n) zero = refl
 no-told (suc n) (suc t) = no-told n t
 
+abbrev pub unslept : Option Context
+unslept = None
+
+pub no-sleeper : (n t : ℕ) → slice_index_or (replicate n unslept) t None ≡ None
+no-sleeper zero t = refl
+no-sleeper (suc n) zero = refl
+no-sleeper (suc n) (suc t) = no-sleeper n t
+
 -- what an indexed list has
 indexed-parked : (i : ℕ) (xs : List Thread) (t : ℕ) (c : Context) → slice_index_or (indexed (λ n (me : Thread). parked_if (is_living me.life) (context_of n me)) i xs) t None ≡ Some c
     → (is_living (slice_index_or xs t nobody).life ≡ true) × (c ≡ context_of (i + t) (slice_index_or xs t nobody)) × (t < length xs)
@@ -130,11 +144,13 @@ pub record IsNew (me : Thread) : Type 0 where
   pub checked : me.checked ≡ no_rows
   pub child : me.child ≡ None
   pub rests : me.pending ≡ []
+  pub aborted : me.aborted ≡ false
+  pub suspended : me.suspended ≡ false
 
 pub new-thread : (image : Image) (u : ℕ) → IsNew (thread_at (opening image) u)
 new-thread image u =
-    opening-is IsNew (record { told = refl; due = copies-long ROWS false; checked = refl; child = refl; rests = refl })
-    (λ i boot. record { told = refl; due = copies-long ROWS false; checked = refl; child = refl; rests = refl }) image u
+    opening-is IsNew (record { told = refl; due = copies-long ROWS false; checked = refl; child = refl; rests = refl; aborted = refl; suspended = refl })
+    (λ i boot. record { told = refl; due = copies-long ROWS false; checked = refl; child = refl; rests = refl; aborted = refl; suspended = refl }) image u
 
 pub one-most : (b : Bool) → one_if b ≤ 1
 one-most true = omega arith
@@ -165,11 +181,28 @@ module _ (image : Image) (cpus : ℕ) where
   pub dues-first : (k : ℕ) → DuesAre (first image cpus) (opening image) k
   dues-first k = record { passes = λ h. absurd (false≢true h); drops = λ from rest h. absurd (false≢true h); few = few-first k }
 
+  pub words-first : (t : ℕ) → WordIs (first image cpus) (opening image) t
+  words-first t =
+      let new = new-thread image t in
+      record { life = refl; doomed = refl; mode = refl; domain = refl; aborted = sym new.aborted; suspended = sym new.suspended }
+
+  -- nobody was cut
+  no-cuts : (t n : ℕ) → total (λ k. counted (is_cut_told t) ((first image cpus).processors k).todo) n ≡ 0
+  no-cuts t zero = refl
+  no-cuts t (suc n) = let h = no-cuts t n in omega (arith, h)
+
+  pub uncut-first : (t : ℕ) → cutters (first image cpus) t ≡ 0
+  uncut-first t =
+      let none = no-cuts t cpus in
+      let not-there : one_if (is_cut (scheduler (first image cpus)) t) ≡ 0 = ap one_if (none-flagged THREADS t) in
+      omega (arith, none, not-there)
+
   -- the own part of a boot thread
-  part-first : (t : ℕ) (c : Context) → is_living (thread_at (opening image) t).life ≡ true → t < THREADS → c ≡ context_of t (thread_at (opening image) t) → IsOf (opening image) c
+  part-first : (t : ℕ) (c : Context) → is_living (thread_at (opening image) t).life ≡ true → t < THREADS → c ≡ context_of t (thread_at (opening image) t)
+      → IsOf (first image cpus) (opening image) c
   part-first t c living l e =
-      subst (IsOf (opening image)) (sym e)
-      (record { index = l; own = refl; claims = (new-thread image t).checked; ended = ended (thread_at (opening image) t).life living; started = started (thread_at (opening image) t).life living; below = refl })
+      subst (IsOf (first image cpus) (opening image)) (sym e)
+      (record { index = l; own = ap (λ n. as_thread (as_cut n (context_of t (thread_at (opening image) t)))) (uncut-first t); waiting = λ some. let none = uncut-first t in absurd (omega (arith, some, none)); claims = (new-thread image t).checked; ended = ended (thread_at (opening image) t).life living; started = started (thread_at (opening image) t).life living; below = refl })
     where
       ended : (life : Life) → is_living life ≡ true → false ≡ is_ended life
       ended Life.Unborn h = refl
@@ -202,11 +235,13 @@ module _ (image : Image) (cpus : ℕ) where
             let r = parked-first t c h in
             (part-first t c r.0 r.2 r.1, ap (λ (z : Context). z.thread) r.1, ap (λ (z : Context). z.ended) r.1, inl (ap (λ (z : Context). z.pending) r.1 ∙ (new-thread image t).rests));
         added = λ k c l h. absurd h;
-        done = λ k l h. absurd (false≢true h);
+        asleep = λ t c h. absurd (none-some (sym (no-sleeper THREADS t) ∙ h));
+        done = λ k l h awake. absurd (false≢true h);
         once = λ t l.
             let none = nowhere-else t cpus in
             let most = one-most (is_some (parked_at (scheduler (first image cpus)) t)) in
-            omega (arith, none, most);
+            let awake : one_if (is_some (asleep_at (joins (first image cpus)) t)) ≡ 0 = ap (λ o. one_if (is_some o)) (no-sleeper THREADS t) in
+            omega (arith, none, most, awake);
       }
 
   pub away-first : (t : ℕ) → AwayIs (first image cpus) (opening image) t
@@ -216,14 +251,14 @@ module _ (image : Image) (cpus : ℕ) where
             (inl (not-living (thread_at (opening image) t).life (living-parked 0 (opening image).threads t (no-one (is_some (parked_at (scheduler (first image cpus)) t)) none))), (new-thread image t).rests);
       }
     where
-      no-one : (b : Bool) → total (λ k. one_if (runs_on t ((first image cpus).processors k)) + of_thread t (adders ((first image cpus).processors k).todo)) cpus + one_if b ≡ 0 → b ≡ false
+      no-one : (b : Bool) → total (λ k. one_if (runs_on t ((first image cpus).processors k)) + of_thread t (adders ((first image cpus).processors k).todo)) cpus + one_if b + one_if (is_some (asleep_at (joins (first image cpus)) t)) ≡ 0 → b ≡ false
       no-one true h = absurd (omega (arith, h))
       no-one false h = refl
 
       not-living : (life : Life) → is_living life ≡ false → life ≢ Life.Living
       not-living life h e = true≢false (sym (ap is_living e) ∙ h)
 
-indexed-long : {A B : Type 0} (g : ℕ → A → B) (i : ℕ) (xs : List A) → length (indexed g i xs) ≡ length xs
+pub indexed-long : {A B : Type 0} (g : ℕ → A → B) (i : ℕ) (xs : List A) → length (indexed g i xs) ≡ length xs
 indexed-long g i [] = refl
 indexed-long g i (x ∷ xs) = ap suc (indexed-long g (i + 1) xs)
 
@@ -232,4 +267,17 @@ scheduler-first image cpus =
     record {
       parked = indexed-long (λ t (me : Thread). parked_if (is_living me.life) (context_of t me)) 0 (opening image).threads ∙ threads-long image;
       told = copies-long THREADS untold;
+      cuts = copies-long THREADS false;
+    }
+
+-- nobody waits on a futex
+pub memory-first : (image : Image) (cpus : ℕ) → MemoryIs (first image cpus) (opening image)
+unfolding blank
+memory-first image cpus =
+    record {
+      memory = refl;
+      stacks = refl;
+      futexes =
+          sym (booted-read (λ z. z.futexes) (λ z pairs. refl) (λ z threads. refl) image.boots (loaded image.partitions (blank image))
+          ∙ loaded-read (λ z. z.futexes) (λ z bytes. (refl, refl)) image.partitions (blank image));
     }

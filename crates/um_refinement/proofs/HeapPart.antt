@@ -1,15 +1,16 @@
 -- The heap has the machine's pools, costs and free addresses after every lawful step.
-use Rattle.um_refinement.proofs.Words.{◌≡◌, inl, inr, ℕ, zero, suc, ◌+◌, ◌<◌, ◌≤◌, Bool, true, false, List, ◌∷◌, length, Option, Some, None, refl, sym, ap, ◌∙◌, subst, arith, eq-eqb, ◌==◌, ◌&&◌, not, if◌then◌else◌, nat_le, slice_index_or, slice_set, unwrap_or, and_parts, eqb-false, eqb-true, leb-true, ltb-true, get_or-set_other, get_or-set_same, length-set, Act, Event, Image, ROWS, STATIC_ROWS, Kind, addr_of, own_row, Object, Pending, Thread, Steps, to_addr, to_thread, MayChoose, State, object_at, thread_at, vacant, with_object, IsRow, is_dying, FineAct, More, address_of, row_named, act_in, charge_in, moves, site_at, Heap, Todo, Todos, FineStep, Site, Fine, heap, row, counted, is_recycle, is_wipe, AreBlocks, HeapIs, and-false, Cost, le_is, fits_in, reserved_in, cost_at, heap_after, paid, ne_eqb}
+use Rattle.um_refinement.proofs.Words.{◌≡◌, inl, inr, ℕ, zero, suc, ◌+◌, ◌<◌, ◌≤◌, Bool, true, false, List, ◌∷◌, length, Option, Some, None, refl, sym, ap, ◌∙◌, subst, arith, eq-eqb, ◌==◌, ◌&&◌, not, if◌then◌else◌, nat_le, slice_index_or, slice_set, unwrap_or, and_parts, eqb-false, eqb-true, leb-true, ltb-true, get_or-set_other, get_or-set_same, length-set, Act, Event, Image, ROWS, STATIC_ROWS, Kind, addr_of, own_row, Object, Pending, Thread, Steps, to_addr, to_thread, MayChoose, State, object_at, thread_at, vacant, with_object, IsRow, is_dying, FineAct, More, address_of, row_named, act_in, charge_in, moves, Heap, Todo, Todos, FineStep, Site, Fine, heap, row, counted, is_recycle, is_wipe, AreBlocks, HeapIs, and-false, Cost, le_is, fits_in, reserved_in, cost_at, heap_after, paid, ne_eqb}
 use Rattle.um_machine.specs.declared.object.Status.TheVariants as Status
 use Rattle.um_machine.specs.Objects as Plain
 use Rattle.um_machine.specs.Table as T
 use Rattle.um_refinement.proofs.FirstThreads.{one-most}
 use Rattle.um_refinement.proofs.Erased.{around}
-use Rattle.um_refinement.proofs.Leaves.{Lawful, Leaves, cleans, drops, event, maker, mine, nothing, passes, recycles, resumes}
+use Rattle.um_refinement.proofs.Leaves.{Beside, Lawful, Leaves, acting, beside, cleans, cuts, drops, event, expires, leaves, maker, mine, nothing, passes, recycles, resumes, ticks, times_out}
 use Rattle.um_refinement.proofs.ListCounts.{cleans-none}
 use Rattle.um_refinement.proofs.MemorySteps.{part-total}
 use Rattle.um_refinement.proofs.ObjectsKept.{NoBirths, NoStatuses, born-reserved, drop-free, gone-dynamic, gone-row, lasting-kept, paired-live, row-again, set-kept, status-kept}
-use Rattle.um_refinement.proofs.Offered.{IsStep, Shows, own-part, shown-offers, site-is}
+use Rattle.um_fine.specs.Asks.{moves_show, site_by}
+use Rattle.um_refinement.proofs.Offered.{IsStep, Shows, moved-made, own-same, shown-offers, site-is}
 use Rattle.um_refinement.proofs.PoolsKept.{heap-put, heap-still, paid-same, pools-same, unbuffer-pools, heap-untouched}
 use Rattle.um_refinement.proofs.Quiet.{heap-quiet}
 use Rattle.um_refinement.proofs.WordsKept.{IsShown}
@@ -82,11 +83,11 @@ module _ (f : Fine) (m : State) (e : FineStep) (law : Lawful f m e) where
       → e.site ≡ Site.heap → heap later ≡ heap_after f.image (heap f) act e.moved
   put h act said site = heap-put f m law.rel e _ More.Nothing said site
 
-  moved-is : {q : Pending} {rest : Steps} {todo : Todos} → Shows f m e.cpu e q rest todo → e.moved ≡ moves f.image (maker f m e) (Todo.show q rest ∷ todo) e.moved
-  moved-is h = sym (ap (λ (s : FineStep). s.moved) h.may.makes) ∙ ap (λ (z : Todos). moves f.image (maker f m e) z e.moved) h.at
+  moved-is : {q : Pending} {rest : Steps} {todo : Todos} → Shows f m e.cpu e q rest todo → e.moved ≡ moves_show f.image (maker f m e) q rest e.moved
+  moved-is h = moved-made h
 
   pool-is : {q : Pending} {rest : Steps} {todo : Todos} → Shows f m e.cpu e q rest todo → (maker f m e).context.pool ≡ (thread_at m (mine f m e)).pool
-  pool-is h = ap (λ (z : Thread). z.pool) (own-part h).own
+  pool-is h = ap (λ (z : Thread). z.pool) (own-same h)
 
   on-buffer : (size : ℕ) (rest : Steps) (todo : Todos) (x : ℕ) → Shows f m e.cpu e (Pending.Buffer size) rest todo → IsStep f m e.cpu e x (Pending.Buffer size)
       → HeapIs later (T.after m (mine f m e) x (Pending.Buffer size) rest)
@@ -190,7 +191,7 @@ module _ (f : Fine) (m : State) (e : FineStep) (law : Lawful f m e) where
       now : heap later ≡ heap_after f.image (heap f) (Act.Recycle (address_of f.image x)) e.moved
       now =
           heap-put f m law.rel e _ More.Nothing said
-          (sym (ap (λ (s : FineStep). s.site) law.by.may.makes) ∙ ap (site_at f.image (maker f m e)) at)
+          (sym (ap (λ (s : FineStep). s.site) law.by.may.makes) ∙ ap (λ (z : Todos). site_by f.image (maker f m e) z e.act) at)
 
       place : row_named f.image (address_of f.image x) ≡ x
       place = named-again x (gone-row m law.sound x chosen.0.0)
@@ -217,7 +218,7 @@ module _ (f : Fine) (m : State) (e : FineStep) (law : Lawful f m e) where
       charged : charge_in e.moved ≡ (object_at m x).buffer
       charged =
           let here = mine-left in
-          ap charge_in (sym (ap (λ (s : FineStep). s.moved) law.by.may.makes) ∙ ap (λ (z : Todos). moves f.image (maker f m e) z e.moved) at)
+          ap charge_in (sym (ap (λ (s : FineStep). s.moved) law.by.may.makes) ∙ ap (λ (z : Todos). moves f.image (maker f m e) z e.act e.moved) at)
           ∙ ((law.rel.processors e.cpu law.by.named).cleaning x few).charged (omega (arith, here)) cleared
 
   -- an event beside the heap that leaves what objects cost and which rows are free
@@ -255,6 +256,23 @@ module _ (f : Fine) (m : State) (e : FineStep) (law : Lawful f m e) where
       untouched (T.after m (mine f m e) x q rest) (still _ _ is.said (heap-untouched f.image (maker f m e) (heap f) e.moved q (act_in e.act) shown tt)) (pools-same m (mine f m e) x q rest tt)
       (cost-kept (mine f m e) x q rest tt) (free-kept (mine f m e) x q rest tt)
 
+  on-beside : (t x : ℕ) (q : Pending) → Beside f m e t x q → HeapIs later (T.after m t x q (thread_at m t).pending)
+  on-beside _ _ _ (cuts who site before x todo at place inside said) =
+      untouched (T.after m (mine f m e) x (Pending.Cut (to_thread who)) (thread_at m (mine f m e)).pending) (still _ More.Nothing said refl) (pools-same m (mine f m e) x (Pending.Cut (to_thread who)) (thread_at m (mine f m e)).pending tt)
+      (cost-kept (mine f m e) x (Pending.Cut (to_thread who)) (thread_at m (mine f m e)).pending tt) (free-kept (mine f m e) x (Pending.Cut (to_thread who)) (thread_at m (mine f m e)).pending tt)
+  on-beside _ _ _ (times_out deadline site x who todo at place inside said) =
+      untouched (T.after m (acting f m e) x (Pending.TimeOut who) (thread_at m (acting f m e)).pending) (still _ More.Nothing said refl) (pools-same m (acting f m e) x (Pending.TimeOut who) (thread_at m (acting f m e)).pending tt)
+      (cost-kept (acting f m e) x (Pending.TimeOut who) (thread_at m (acting f m e)).pending tt) (free-kept (acting f m e) x (Pending.TimeOut who) (thread_at m (acting f m e)).pending tt)
+  on-beside _ _ _ (expires deadline x todo at inside said) =
+      untouched (T.after m (acting f m e) x.0 Pending.Expire (thread_at m (acting f m e)).pending) (still _ More.Nothing said refl) (pools-same m (acting f m e) x.0 Pending.Expire (thread_at m (acting f m e)).pending tt)
+      (cost-kept (acting f m e) x.0 Pending.Expire (thread_at m (acting f m e)).pending tt) (free-kept (acting f m e) x.0 Pending.Expire (thread_at m (acting f m e)).pending tt)
+  on-beside _ _ _ (ticks at said) =
+      untouched (T.after m (acting f m e) 0 Pending.Tick (thread_at m (acting f m e)).pending) (still _ More.Nothing said refl) (pools-same m (acting f m e) 0 Pending.Tick (thread_at m (acting f m e)).pending tt)
+      (cost-kept (acting f m e) 0 Pending.Tick (thread_at m (acting f m e)).pending tt) (free-kept (acting f m e) 0 Pending.Tick (thread_at m (acting f m e)).pending tt)
+  on-beside _ _ _ (leaves todo at said) =
+      untouched (T.after m (mine f m e) 0 Pending.Left (thread_at m (mine f m e)).pending) (still _ More.Nothing said refl) (pools-same m (mine f m e) 0 Pending.Left (thread_at m (mine f m e)).pending tt)
+      (cost-kept (mine f m e) 0 Pending.Left (thread_at m (mine f m e)).pending tt) (free-kept (mine f m e) 0 Pending.Left (thread_at m (mine f m e)).pending tt)
+
   pub heap-part : (s : State) → Leaves f m e s → HeapIs later s
   heap-part _ (nothing u said) = heap-quiet f m law.rel e u said
   heap-part _ (event q rest todo x h shown is) = by-event q rest todo x h shown is
@@ -276,3 +294,4 @@ module _ (f : Fine) (m : State) (e : FineStep) (law : Lawful f m e) where
       drop-free (with_cleaner m (mine f m e) z) who x y (λ p. ap Plain.is_live (set-kept (λ (w : Object). w.status) m.objects z x o refl) ∙ paired-live m law.sound x who p)
       ∙ ap Plain.is_free (set-kept (λ (w : Object). w.status) m.objects z y o refl))
   heap-part _ (recycles x rest todo at few said chosen) = on-recycle x rest todo at few said chosen
+  heap-part _ (beside t x q how chosen started) = on-beside t x q how

@@ -1,9 +1,9 @@
 -- A processor's event on the heap is that step of the machine, where the relation holds: a buffer that is taken, and an address that is
 -- reserved, the least one that is free for the kind.
-use Rattle.um_refinement.proofs.Words.{◌≡◌, ◌⊎◌, inl, inr, ne_eqb, ℕ, zero, suc, ◌+◌, ◌<◌, ◌≤◌, Bool, true, false, Option, Some, None, refl, sym, ap, ◌∙◌, subst, arith, eq-or-lt_of_le, ◌==◌, ◌&&◌, nat_le, nat_lt, IsTrue, if◌then◌else◌, is_some, unwrap_or, and_parts, false≢true, leb-true, lt-ltb, ltb-true, Act, ROWS, STATIC_ROWS, Kind, Pending, Thread, Steps, MayChoose, State, object_at, thread_at, Image, address_of, act_in, charge_in, Exchange, FineStep, Site, Heap, Cell, SiteState, is_sort, site_answers, Todos, moves, shows, Fine, heap, heap_state, Rel, dynamic_kind, is_free_for, address_or, fits_in, reserved_in, can_pay, is_open, least_open}
+use Rattle.um_refinement.proofs.Words.{◌≡◌, ◌⊎◌, inl, inr, ne_eqb, ℕ, zero, suc, ◌+◌, ◌<◌, ◌≤◌, Bool, true, false, Option, Some, None, refl, sym, ap, ◌∙◌, subst, arith, eq-or-lt_of_le, ◌==◌, ◌&&◌, nat_le, nat_lt, IsTrue, if◌then◌else◌, is_some, unwrap_or, and_parts, false≢true, leb-true, lt-ltb, ltb-true, Act, ROWS, STATIC_ROWS, Kind, Pending, Thread, Steps, MayChoose, State, object_at, thread_at, Image, address_of, act_in, charge_in, Exchange, FineStep, Site, Heap, Cell, SiteState, is_sort, site_answers, Todos, shows, Fine, heap, heap_state, Rel, dynamic_kind, is_free_for, address_or, fits_in, reserved_in, can_pay, is_open, least_open}
 use Rattle.um_machine.specs.Objects.{is_free, kind_number}
 use Rattle.um_machine.specs.Table as T
-use Rattle.um_refinement.proofs.Offered.{IsStep, Shows, act-is, machine-step, own-part, says-at, site-is}
+use Rattle.um_refinement.proofs.Offered.{IsStep, Shows, act-is, machine-step, moved-made, own-same, says-at, site-is}
 
 pub heap-sort : (s : SiteState) → IsTrue (is_sort Site.heap s) → (n : ℕ) × (s ≡ SiteState.cell n (Cell.heap (heap_state s)))
 heap-sort (SiteState.cell n (Cell.heap h)) is = (n, refl)
@@ -21,8 +21,8 @@ buffer-step {f} {m} {k} {e} {rest} {todo} size h =
     let at = heap-sort (f.sites Site.heap) (h.rel.sorts Site.heap) in
     let here = subst (λ (s : SiteState). site_answers f.image s e.moved act ≡ act) at.1 (says-at h Site.heap act (site-is h) (act-is h)) in
     let moved : e.moved ≡ Exchange.charge (T.cost_of c.pool size) =
-    sym (ap (λ (s : FineStep). s.moved) h.may.makes) ∙ ap (λ (z : Todos). moves f.image (f.processors k) z e.moved) h.at in
-    let pool : c.pool ≡ (thread_at m c.thread).pool = ap (λ (z : Thread). z.pool) (own-part h).own in
+    moved-made h in
+    let pool : c.pool ≡ (thread_at m c.thread).pool = ap (λ (z : Thread). z.pool) (own-same h) in
     machine-step h 0 (act-is h) tt
     (ap (Act.Buffer size)
     (sym (ap (λ z. fits_in (act_in z)) here)
@@ -101,8 +101,8 @@ module _ {f : Fine} {m : State} {k : ℕ} {e : FineStep} {rest : Steps} {todo : 
       let at = heap-sort (f.sites Site.heap) (h.rel.sorts Site.heap) in
       let here = subst (λ (s : SiteState). site_answers f.image s e.moved act ≡ act) at.1 (says-at h Site.heap act (site-is h) (act-is h)) in
       let moved : e.moved ≡ Exchange.charge (T.cost_of c.pool 64) =
-      sym (ap (λ (s : FineStep). s.moved) h.may.makes) ∙ ap (λ (z : Todos). moves f.image (f.processors k) z e.moved) h.at in
-      let pool : c.pool ≡ (thread_at m c.thread).pool = ap (λ (z : Thread). z.pool) (own-part h).own in
+      moved-made h in
+      let pool : c.pool ≡ (thread_at m c.thread).pool = ap (λ (z : Thread). z.pool) (own-same h) in
       let pays : can_pay (heap f).pools (charge_in e.moved) ≡ T.pays m (thread_at m c.thread).pool 64 =
       (λ i. can_pay (h.rel.heap.pools i) (charge_in (moved i))) ∙ (pays-here m c.pool 64 ∙ ap (λ o. T.pays m o 64) pool) in
       sym (ap (λ z. reserved_in (act_in z)) here) ∙ ap (λ b. if b then address_or f.image (least_open (heap f) kind 0 ROWS) else None) pays

@@ -1,22 +1,30 @@
 -- A processor that holds its thread has that one's domain, after every lawful step: no thread that is held moves to another domain, or is
 -- started; and the steps of an end don't hold it.
-use Rattle.um_refinement.proofs.Words.{◌≡◌, inl, inr, ℕ, ◌<◌, Bool, true, false, cond, List, [], ◌∷◌, Option, Some, None, refl, sym, ap, ◌∙◌, subst, arith, eq-eqb, ◌==◌, ◌&&◌, ◌||◌, not, if◌then◌else◌, nat_lt, unwrap_or, list_any, and_parts, eqb-true, false≢true, true≢false, Act, Image, THREADS, ThreadIx, Pending, Life, Steps, is_empty, State, is_living, is_started, thread_at, FineAct, More, Unseen, ThreadWord, thread_after, thread_after_act, act_in, domain_in, is_visit, is_word_read, allows, begins_cleaning, more_of, says_idle, says_step, Context, no_context, after_claim, after_show, dropped_at, goes_on_by, p_next, unless_loaded, Todo, Todos, fine_steps, Processor, fails, is_of, key_of, first_ready, parked_at, SiteState, s_next, same_site, site_after, site_takes, word_of, FineStep, Site, same-sound, Fine, one_if, scheduler, thread_state, word, Behind, has_held, has_steps, is_hold, runs, runs_thread, Fits, is_ended, thread_after_unseen, thread_takes, thread_in, is_move_done, DomainKept}
+use Rattle.um_refinement.proofs.Words.{◌≡◌, inl, inr, ℕ, ◌<◌, Bool, true, false, cond, [], ◌∷◌, Some, None, refl, sym, ap, ◌∙◌, subst, arith, eq-eqb, ◌==◌, ◌&&◌, ◌||◌, not, if◌then◌else◌, nat_lt, list_any, and_parts, eqb-true, ◌++◌, Exchange, continues, behind_shown, false≢true, true≢false, Act, Image, THREADS, ThreadIx, Pending, Life, Steps, is_empty, State, is_living, is_started, thread_at, FineAct, More, Unseen, ThreadWord, thread_after, thread_after_act, act_in, domain_in, is_visit, is_word_read, allows, begins_cleaning, more_of, says_step, Context, after_claim, after_show, dropped_at, goes_on_by, p_next, unless_loaded, Todo, Todos, fine_steps, Processor, fails, is_of, key_of, SiteState, s_next, same_site, site_after, site_takes, word_of, FineStep, Site, same-sound, Fine, one_if, scheduler, thread_state, word, Behind, has_held, has_steps, is_hold, runs, runs_thread, Fits, is_ended, thread_after_unseen, thread_takes, thread_in, is_move_done, DomainKept}
 use Rattle.um_base.specs.declared.names.Access.TheVariants as Access
+use Rattle.um_fine.specs.Answers.{is_killed}
+use Rattle.um_fine.specs.Follows.{shown_step}
+use Rattle.um_fine.specs.Places.{put_away}
+use Rattle.um_fine.specs.Scheduler.{is_cut, to_kill}
+use Rattle.um_refinement.specs.Frames.{IsAccess, IsActOver, IsWaitOver, access_alone, access_settled, act_alone, act_settled, both, nothing, rereads, settled}
 use Rattle.um_refinement.proofs.CallsKnown.{starts-known}
 use Rattle.um_refinement.proofs.DomainReads.{is_told, next-domain, next-reply}
 use Rattle.um_refinement.proofs.Endings.{Ends, TakesLiving, continues-ended, ending-alone, is_last, last-alone, next-ends}
 use Rattle.um_refinement.proofs.Erased.{around}
-use Rattle.um_refinement.proofs.Kept.{idle-moves}
-use Rattle.um_refinement.proofs.Leaves.{Lawful, Leaves, cleans, drops, event, nothing, passes, recycles, resumes}
-use Rattle.um_refinement.proofs.ListGrips.{cleaned-context, filled-grip, grip, is_gripping, next-grips, next-thread, takes-grip}
+use Rattle.um_refinement.proofs.Leaves.{Beside, Lawful, Leaves, beside, cleans, cuts, drops, event, expires, leaves, nothing as unshown, passes, recycles, resumes, ticks, times_out}
+use Rattle.um_refinement.proofs.ListGrips.{filled-grip, grip, is_gripping, kill-rests, next-context, next-grips, next-thread, takes-grip}
+use Rattle.um_refinement.proofs.HeldPart.{over-grip}
+use Rattle.um_refinement.proofs.ListClaims.{IsThread}
 use Rattle.um_refinement.proofs.ListRuns.{ends-rests}
-use Rattle.um_refinement.proofs.ListGrowth.{ReadsLast, either-look, is_end, is_read_claim}
-use Rattle.um_refinement.proofs.ListTails.{Reads, exact-next, is_passed, tail-read, takes-read}
+use Rattle.um_refinement.proofs.ListGrowth.{ReadsLast, forms-kept, is_end, is_read_claim}
+use Rattle.um_refinement.proofs.ListTails.{Reads, adds-pass, is_passed, quiet-next, tail-read, takes-read}
 use Rattle.um_refinement.proofs.MemorySteps.{part-total}
 use Rattle.um_refinement.proofs.Offered.{IsStep, Shows, shown-offers, site-is, either-act}
 use Rattle.um_refinement.proofs.RowSteps.{thread-sort}
-use Rattle.um_refinement.proofs.SchedulerSteps.{made-at, made-says, sched-moved, word-left}
+use Rattle.um_refinement.proofs.SchedulerSteps.{made-at, made-says, word-left}
 use Rattle.um_refinement.proofs.StepReads.{is-behind}
+use Rattle.um_refinement.proofs.TableReads.{grip-runs}
+use Rattle.um_refinement.proofs.Taking.{Idles, idles, takes, tends}
 
 -- What a processor was told of a move, and whose domain it has.
 
@@ -26,12 +34,38 @@ done-passed (Todo.read_done d) todo h = absurd (false≢true h)
 done-passed q todo h = refl
 
 done-none : (image : Image) (c : Context) (q : Pending) (rest : Steps) → list_any is_move_done (fine_steps image c q rest) ≡ false
-done-none image c (Pending.Probe a amount) rest = either-look image (λ todo. list_any is_move_done todo ≡ false) amount _ (λ x h. h) refl
-done-none image c (Pending.CopyIn a amount) rest = either-look image (λ todo. list_any is_move_done todo ≡ false) amount _ (λ x h. h) refl
-done-none image c q rest = refl
+done-none image = forms-kept image (λ todo. list_any is_move_done todo ≡ false)
+    (record {
+      note = λ site todo h. h;
+      act = λ q rest. refl;
+      settles = λ q rest deadline mark. refl;
+      access = λ q rest. refl;
+      access_settles = λ q rest deadline mark. refl;
+      look = λ x todo h. h;
+      owe = λ q rest. refl;
+      leave = λ a rest. refl;
+      edit = λ d q rest. refl;
+      move = λ d who rest. refl;
+      start = λ who q rest c. refl;
+    })
+
+done-waited : (site : ℕ) (todo : Todos) → IsActOver todo → list_any is_move_done (todo ++ Todo.reread site ∷ []) ≡ list_any is_move_done todo
+done-waited site _ act_alone = refl
+done-waited site _ act_settled = refl
+done-waited site _ access_alone = refl
+done-waited site _ access_settled = refl
 
 done-reads : (image : Image) → Reads image (list_any is_move_done) false
-done-reads image = record { empty = refl; passed = done-passed; expanded = done-none image; begins = refl; exits = refl }
+done-reads image = record { empty = refl; passed = done-passed; expanded = done-none image; begins = refl; exits = refl; waited = done-waited }
+
+done-over : (over : Todos) → IsWaitOver over → list_any is_move_done over ≡ false
+done-over _ nothing = refl
+done-over _ settled = refl
+done-over _ rereads = refl
+done-over _ both = refl
+
+done-access : (access : Todos) → IsAccess access → list_any is_move_done access ≡ false
+done-access access h = ap (list_any is_move_done) h.3 ∙ done-over h.2 h.5
 
 or-right : (a b : Bool) → b ≡ true → (a || b) ≡ true
 or-right true b h = refl
@@ -50,12 +84,19 @@ is_placing (Pending.DomMove d who) = true
 is_placing (Pending.Start who script stack priority mode) = true
 is_placing q = false
 
+flagged-domain : (b : Bool) (z w : ThreadWord) → z.domain ≡ w.domain → (if b then z else w).domain ≡ w.domain
+flagged-domain true z w h = h
+flagged-domain false z w h = refl
+
 event-domain : (image : Image) (p : Processor) (w : ThreadWord) (more : More) (q : Pending) (act : Act) → is_placing q ≡ false → (thread_after_act w more (says_step image p q act)).domain ≡ w.domain
 event-domain image p w more (Pending.DomMove d who) act h = absurd (true≢false h)
 event-domain image p w more (Pending.Start who script stack priority mode) act h = absurd (true≢false h)
 event-domain image p w more (Pending.Load to a n) act h = either-act (λ z. (thread_after_act w more z).domain) _ (allows image p Access.Read a.0 n) _ _ refl refl
 event-domain image p w more (Pending.Store a n value) act h = either-act (λ z. (thread_after_act w more z).domain) _ (allows image p Access.Write a.0 n) _ _ refl refl
 event-domain image p w more (Pending.Fetch a) act h = either-act (λ z. (thread_after_act w more z).domain) _ (allows image p Access.Exec a.0 4) _ _ refl refl
+event-domain image p w more (Pending.Abort who) act h = flagged-domain (is_living w.life) (record w { aborted = true }) w refl
+event-domain image p w more (Pending.Suspend who) act h = flagged-domain (is_living w.life) (record w { suspended = true }) w refl
+event-domain image p w more (Pending.Continue who) act h = flagged-domain (is_living w.life) (record w { suspended = false }) w refl
 event-domain image p w more q act h = refl
 
 -- a thread that was started and hasn't ended lives
@@ -81,11 +122,7 @@ module _ (f : Fine) (m : State) (e : FineStep) (law : Lawful f m e) where
     t = (f.processors k).context.thread
 
     running : runs (f.processors k) ≡ true
-    running = by (f.processors k).todo refl
-      where
-        by : (todo : Todos) → (f.processors k).todo ≡ todo → runs (f.processors k) ≡ true
-        by [] at = absurd (false≢true (sym (ap grip at) ∙ held))
-        by (q ∷ todo) at = ap has_steps at
+    running = grip-runs law.rel l held
 
     few : t < THREADS
     few = (law.rel.contexts.running k l running).index
@@ -155,34 +192,42 @@ module _ (f : Fine) (m : State) (e : FineStep) (law : Lawful f m e) where
     by-event (Pending.Start who script stack priority mode) rest todo x h is = starts-not who script stack priority mode rest todo x h
     by-event q rest todo x h is = leaves-domain _ is.said (event-domain f.image p (word f t) (more_of f.image p q) q (act_in e.act) refl)
 
+    beside-stays : {u x : ℕ} {q : Pending} → Beside f m e u x q → (word later t).domain ≡ (word f t).domain
+    beside-stays (cuts who site before x todo at place inside said) = leaves-domain _ said refl
+    beside-stays (times_out deadline site x who todo at place inside said) = leaves-domain _ said refl
+    beside-stays (expires deadline x todo at inside said) = leaves-domain _ said refl
+    beside-stays (ticks at said) = leaves-domain _ said refl
+    beside-stays (leaves todo at said) = leaves-domain _ said refl
+
     domain-stays : (s : State) → Leaves f m e s → (word later t).domain ≡ (word f t).domain
-    domain-stays _ (nothing u said) = leaves-domain _ said (unseen-domain (word f t) u)
+    domain-stays _ (unshown u said) = leaves-domain _ said (unseen-domain (word f t) u)
     domain-stays _ (event q rest todo x h shown is) = by-event q rest todo x h is
     domain-stays _ (resumes c told rest idle moved said) = leaves-domain _ said refl
     domain-stays _ (passes who x rest todo h said) = leaves-domain _ said refl
     domain-stays _ (drops from x rest todo h said) = leaves-domain _ said refl
     domain-stays _ (cleans who x rest todo h said) = leaves-domain _ said refl
-    domain-stays _ (recycles x rest todo at few said chosen) = leaves-domain _ said refl
+    domain-stays _ (recycles x rest todo at inside said chosen) = leaves-domain _ said refl
+    domain-stays _ (beside u x q how chosen started) = beside-stays how
 
   -- The processor that makes the step.
 
   -- a thread that is taken hasn't ended
   takes-living : p.todo ≡ [] → TakesLiving f.image e.moved
-  takes-living at = subst (TakesLiving f.image) (sym moved) (by (scheduler f).ready)
+  takes-living at = by (idles f m e law at)
     where
-      act : FineAct
-      act = says_idle f.image p e.moved
+      kill-ended : (b : Bool) (c : Context) → (to_kill b c).ended ≡ c.ended
+      kill-ended true c = refl
+      kill-ended false c = refl
 
-      moved : e.moved ≡ first_ready (scheduler f) (scheduler f).ready
-      moved = sym (sched-moved f m e law (made-at f m e law [] at) act (made-says f m e law [] at)) ∙ idle-moves f.image p (scheduler f) e.moved
+      none : (moved : Exchange) → (IsThread moved → ⊥) → TakesLiving f.image moved
+      none (Exchange.thread c told) h = absurd (h tt)
+      none moved h = tt
 
-      taken : (t : ℕ) (o : Option Context) → parked_at (scheduler f) t ≡ o → (unwrap_or o no_context).ended ≡ false
-      taken t None q = refl
-      taken t (Some c) q = (law.rel.contexts.parked t c q).2
-
-      by : (ready : List ℕ) → TakesLiving f.image (first_ready (scheduler f) ready)
-      by [] = tt
-      by (t ∷ ready) = taken t (parked_at (scheduler f) t) refl
+      by : Idles f e → TakesLiving f.image e.moved
+      by (takes first) =
+          subst (TakesLiving f.image) (sym first.moved)
+          (kill-ended (is_cut (scheduler f) first.thread) first.parked ∙ (law.rel.contexts.parked first.thread first.parked first.there).2)
+      by (tends is) = none e.moved is.other
 
   ends-mine : Ends now.context
   ends-mine = next-ends f.image p e fits (was e.cpu law.by.named).ends takes-living
@@ -192,10 +237,10 @@ module _ (f : Fine) (m : State) (e : FineStep) (law : Lawful f m e) where
   let-go-none todo at = ap (λ (z : Processor). grip z.todo) next ∙ (filled-grip f.image p.context todo ∙ none (frame Todo.let_go todo at))
     where
       next : now ≡ goes_on_by f.image p e (Todo.let_go ∷ todo)
-      next = exact-next f.image p e (Todo.let_go ∷ todo) at (ap (λ a. begins_cleaning (record e { act = a })) (made-says f m e law (Todo.let_go ∷ todo) at))
+      next = quiet-next f.image p e (Todo.let_go ∷ todo) Unseen.LetGo at (made-says f m e law (Todo.let_go ∷ todo) at) refl
 
       none : Behind f.image Todo.let_go todo → grip todo ≡ false
-      none (inl h) = ap grip h
+      none (inl h) = (over-grip todo h).1
       none (inr h) = ap grip h.1
 
   end-none : (q : Todo) (todo : Todos) → p.todo ≡ q ∷ todo → is_end q ≡ true → begins_cleaning e ≡ false → has_held now ≡ false
@@ -208,12 +253,9 @@ module _ (f : Fine) (m : State) (e : FineStep) (law : Lawful f m e) where
       before : Ends p.context
       before = (was e.cpu law.by.named).ends
 
-      quiet-list : (q : Todo) (todo : Todos) → p.todo ≡ q ∷ todo → begins_cleaning e ≡ false → now ≡ goes_on_by f.image p e (q ∷ todo)
-      quiet-list q todo at quiet = exact-next f.image p e (q ∷ todo) at quiet
-
       -- the context that it has then
       context-by : (q : Todo) (todo : Todos) → p.todo ≡ q ∷ todo → now.context ≡ (goes_on_by f.image p e (q ∷ todo)).context
-      context-by q todo at = cleaned-context f.image (goes_on_by f.image p e p.todo) e (begins_cleaning e) ∙ ap (λ (z : Todos). (goes_on_by f.image p e z).context) at
+      context-by q todo at = next-context f.image p e ∙ ap (λ (z : Todos). (goes_on_by f.image p e z).context) at
 
       -- it was held before
       was-held : (q : Todo) (todo : Todos) → p.todo ≡ q ∷ todo → is_gripping q ≡ false → ReadsLast e q todo → (grip (q ∷ todo) ≡ true) × (p.context.ended ≡ false)
@@ -230,11 +272,15 @@ module _ (f : Fine) (m : State) (e : FineStep) (law : Lawful f m e) where
 
       at-hold : (todo : Todos) → p.todo ≡ Todo.hold ∷ todo → Behind f.image Todo.hold todo → now.context.ended ≡ false
       at-hold todo at (inl h) =
+          let (access, same, is) = h in
           ap (λ (c : Context). c.ended) (context-by Todo.hold todo at)
-          ∙ not-ended p.context h.0 h.1 _ before (subst (λ (z : Todos). Fits f.image p.context (Todo.hold ∷ z)) h.2 (subst (Fits f.image p.context) at fits)) refl
+          ∙ not-ended p.context is.0 is.1 _ before
+          (subst (λ (z : Todos). Fits f.image p.context (Todo.hold ∷ z)) (same ∙ ap (λ (z : Todos). Todo.read_claim None ∷ Todo.region_load ∷ z) is.3) (subst (Fits f.image p.context) at fits)) refl
       at-hold todo at (inr h) =
+          let (who, start, same, is) = h in
           ap (λ (c : Context). c.ended) (context-by Todo.hold todo at)
-          ∙ not-ended p.context h.0 h.1 _ before (subst (λ (z : Todos). Fits f.image p.context (Todo.hold ∷ z)) h.3 (subst (Fits f.image p.context) at fits)) refl
+          ∙ not-ended p.context is.0 is.1 _ before
+          (subst (λ (z : Todos). Fits f.image p.context (Todo.hold ∷ z)) (same ∙ ap (λ (z : Todos). Todo.unshut who ∷ z) is.3) (subst (Fits f.image p.context) at fits)) refl
 
       at-show : (q : Pending) (rest : Steps) (todo : Todos) → p.todo ≡ Todo.show q rest ∷ todo → now.context.ended ≡ false
       at-show q rest todo at = ap (λ (c : Context). c.ended) (context-by (Todo.show q rest) todo at) ∙ by-read (is_word_read e.act)
@@ -242,13 +288,21 @@ module _ (f : Fine) (m : State) (e : FineStep) (law : Lawful f m e) where
           old : (grip (Todo.show q rest ∷ todo) ≡ true) × (p.context.ended ≡ false)
           old = was-held (Todo.show q rest) todo at refl (last-shown q rest todo at)
 
+          -- nothing would stand behind a step that ends the thread
+          lonely : behind_shown f.image p.context q ≡ [] → ⊥
+          lonely none = false≢true (sym (ap grip ((subst (Fits f.image p.context) at fits).1 ∙ none)) ∙ old.0)
+
           not-last : (b : Bool) → is_last q ≡ b → b ≡ false
           not-last false h = refl
-          not-last true h = absurd (false≢true (sym (ap grip ((subst (Fits f.image p.context) at fits).1 ∙ last-alone f.image p.context q h)) ∙ old.0))
+          not-last true h = absurd (lonely (last-alone f.image p.context q h))
 
-          by-read : (b : Bool) → (if b then record p { todo = Todo.done ∷ [] } else after_show f.image p e q rest todo).context.ended ≡ false
+          made-ended : (b : Bool) → is_killed e.act ≡ b → (continues f.image p.context 0 (if b then Pending.Killed else q) rest (act_in e.act) e.moved).ended ≡ p.context.ended
+          made-ended true kill = absurd (lonely (kill-rests f.image p p.context q e.act (made-says f m e law (Todo.show q rest ∷ todo) at) kill))
+          made-ended false kill = continues-ended f.image p.context 0 q rest (act_in e.act) e.moved (not-last (is_last q) refl)
+
+          by-read : (b : Bool) → (if b then record p { todo = put_away (thread_in e.word).doomed } else after_show f.image p e (shown_step f.image q e.act) rest todo).context.ended ≡ false
           by-read true = old.1
-          by-read false = continues-ended f.image p.context 0 q rest (act_in e.act) e.moved (not-last (is_last q) refl) ∙ old.1
+          by-read false = made-ended (is_killed e.act) refl ∙ old.1
 
       by : (todo : Todos) → p.todo ≡ todo → now.context.ended ≡ false
       by [] at = absurd (false≢true (sym (takes-grip f.image p e at) ∙ held))
@@ -256,6 +310,8 @@ module _ (f : Fine) (m : State) (e : FineStep) (law : Lawful f m e) where
       by (Todo.let_go ∷ todo) at = absurd (false≢true (sym (let-go-none todo at) ∙ held))
       by (Todo.park ∷ todo) at = absurd (false≢true (sym (end-none Todo.park todo at refl (ap (λ a. begins_cleaning (record e { act = a })) (made-says f m e law (Todo.park ∷ todo) at))) ∙ held))
       by (Todo.done ∷ todo) at = absurd (false≢true (sym (end-none Todo.done todo at refl (ap (λ a. begins_cleaning (record e { act = a })) (made-says f m e law (Todo.done ∷ todo) at))) ∙ held))
+      by (Todo.paid ∷ todo) at = absurd (false≢true (sym (end-none Todo.paid todo at refl (ap (λ a. begins_cleaning (record e { act = a })) (made-says f m e law (Todo.paid ∷ todo) at))) ∙ held))
+      by (Todo.sleep ∷ todo) at = absurd (false≢true (sym (ap grip (frame Todo.sleep todo at)) ∙ (was-held Todo.sleep todo at refl tt).0))
       by (Todo.show q rest ∷ todo) at = at-show q rest todo at
       by (Todo.drop x ∷ todo) at = ap (λ (c : Context). c.ended) (context-by (Todo.drop x) todo at) ∙ (dropped (is_visit e.act) ∙ (was-held (Todo.drop x) todo at refl tt).1)
         where
@@ -272,13 +328,13 @@ module _ (f : Fine) (m : State) (e : FineStep) (law : Lawful f m e) where
       by (q ∷ todo) at = ap (λ (c : Context). c.ended) (context-by q todo at) ∙ (was-held q todo at refl tt).1
 
   kept-mine : has_held now ≡ true → (s : State) → Leaves f m e s → now.domain ≡ (word later now.context.thread).domain
-  kept-mine held s leaves = by p.todo refl
+  kept-mine held s how = by p.todo refl
     where
       at-hold : (todo : Todos) → p.todo ≡ Todo.hold ∷ todo → now.domain ≡ (word later now.context.thread).domain
       at-hold todo at = ap (λ (z : Processor). z.domain) next ∙ (left ∙ ap (λ u. (word later u).domain) (sym (ap (λ (z : Processor). z.context.thread) next)))
         where
           next : now ≡ goes_on_by f.image p e (Todo.hold ∷ todo)
-          next = exact-next f.image p e (Todo.hold ∷ todo) at (ap (λ a. begins_cleaning (record e { act = a })) (made-says f m e law (Todo.hold ∷ todo) at))
+          next = quiet-next f.image p e (Todo.hold ∷ todo) Unseen.Hold at (made-says f m e law (Todo.hold ∷ todo) at) refl
 
           site : e.site ≡ Site.thread p.context.thread
           site = made-at f m e law (Todo.hold ∷ todo) at
@@ -301,7 +357,7 @@ module _ (f : Fine) (m : State) (e : FineStep) (law : Lawful f m e) where
           let before : has_held p ≡ true = ap grip at ∙ (sym (next-grips f.image p e q todo at free (frame q todo at) last) ∙ held) in
           domain
           ∙ ((was e.cpu law.by.named).kept before
-          ∙ (sym (domain-stays e.cpu law.by.named before s leaves) ∙ ap (λ u. (word later u).domain) (sym (next-thread f.image p e q todo at over))))
+          ∙ (sym (domain-stays e.cpu law.by.named before s how) ∙ ap (λ u. (word later u).domain) (sym (next-thread f.image p e q todo at over))))
 
       keeps : (q : Todo) (todo : Todos) → p.todo ≡ q ∷ todo → is_hold q ≡ false → now.domain ≡ p.domain
       keeps q todo at h = next-domain f.image p e q todo at h
@@ -312,6 +368,7 @@ module _ (f : Fine) (m : State) (e : FineStep) (law : Lawful f m e) where
       by (Todo.let_go ∷ todo) at = absurd (false≢true (sym (let-go-none todo at) ∙ held))
       by (Todo.park ∷ todo) at = absurd (false≢true (sym (end-none Todo.park todo at refl (ap (λ a. begins_cleaning (record e { act = a })) (made-says f m e law (Todo.park ∷ todo) at))) ∙ held))
       by (Todo.done ∷ todo) at = absurd (false≢true (sym (end-none Todo.done todo at refl (ap (λ a. begins_cleaning (record e { act = a })) (made-says f m e law (Todo.done ∷ todo) at))) ∙ held))
+      by (Todo.paid ∷ todo) at = absurd (false≢true (sym (end-none Todo.paid todo at refl (ap (λ a. begins_cleaning (record e { act = a })) (made-says f m e law (Todo.paid ∷ todo) at))) ∙ held))
       by (Todo.show q rest ∷ todo) at = goes-on (Todo.show q rest) todo at refl refl (last-shown q rest todo at) (keeps (Todo.show q rest) todo at refl)
       by (q ∷ todo) at = goes-on q todo at refl refl tt (keeps q todo at refl)
 
@@ -320,20 +377,30 @@ module _ (f : Fine) (m : State) (e : FineStep) (law : Lawful f m e) where
   moves-mine : list_any is_move_done now.todo ≡ true → fails now.reply ≡ false
   moves-mine there = by p.todo refl
     where
+      tail : (q : Todo) (todo : Todos) → p.todo ≡ q ∷ todo → is_read_claim q ≡ false → ReadsLast e q todo → list_any is_move_done now.todo ≡ list_any is_move_done todo
+      tail q todo at claims last =
+          tail-read f.image (list_any is_move_done) false (done-reads f.image) p e q todo at claims
+          (adds-pass f.image (list_any is_move_done) false (done-reads f.image) (λ c z. refl) q) (frame q todo at) last
+
       goes-on : (q : Todo) (todo : Todos) → p.todo ≡ q ∷ todo → is_read_claim q ≡ false → is_told q ≡ false → ReadsLast e q todo → fails now.reply ≡ false
       goes-on q todo at claims tells last =
-          let behind = sym (tail-read f.image (list_any is_move_done) false (done-reads f.image) p e q todo at claims (frame q todo at) last) ∙ there in
+          let behind = sym (tail q todo at claims last) ∙ there in
           ap fails (next-reply f.image p e q todo at tells) ∙ (was e.cpu law.by.named).moves (ap (list_any is_move_done) at ∙ or-right (is_move_done q) (list_any is_move_done todo) behind)
 
       none : (q : Todo) (todo : Todos) → p.todo ≡ q ∷ todo → is_read_claim q ≡ false → ReadsLast e q todo → list_any is_move_done todo ≡ false → fails now.reply ≡ false
       none q todo at claims last lacks =
-          absurd (false≢true (sym (tail-read f.image (list_any is_move_done) false (done-reads f.image) p e q todo at claims (frame q todo at) last ∙ lacks) ∙ there))
+          absurd (false≢true (sym (tail q todo at claims last ∙ lacks) ∙ there))
 
       own-claim : (todo : Todos) → p.todo ≡ Todo.read_claim None ∷ todo → fails now.reply ≡ false
       own-claim todo at =
-          let next = exact-next f.image p e (Todo.read_claim None ∷ todo) at (ap (λ a. begins_cleaning (record e { act = a })) (made-says f m e law (Todo.read_claim None ∷ todo) at)) in
-          let h = frame (Todo.read_claim None) todo at in
-          absurd (false≢true (sym (ap (λ (z : Processor). list_any is_move_done z.todo) next ∙ (unless (is_of (key_of (record p { version = (domain_in e.word).version })) p.table) todo ∙ ap (list_any is_move_done) h.2)) ∙ there))
+          let next = quiet-next f.image p e (Todo.read_claim None ∷ todo) Unseen.ReadClaim at (made-says f m e law (Todo.read_claim None ∷ todo) at) refl in
+          let (access, same, is) = frame (Todo.read_claim None) todo at in
+          absurd
+          (false≢true
+          (sym
+          (ap (λ (z : Processor). list_any is_move_done z.todo) next
+          ∙ (unless (is_of (key_of (record p { version = (domain_in e.word).version })) p.table) todo ∙ (ap (list_any is_move_done) same ∙ done-access access is)))
+          ∙ there))
         where
           unless : (b : Bool) (left : Todos) → list_any is_move_done (unless_loaded b left) ≡ list_any is_move_done left
           unless true (Todo.region_load ∷ left) = refl
@@ -343,7 +410,7 @@ module _ (f : Fine) (m : State) (e : FineStep) (law : Lawful f m e) where
       claim d todo at = which (domain_in e.word).init refl
         where
           next : now ≡ after_claim p d (domain_in e.word).init 0 todo
-          next = exact-next f.image p e (Todo.read_claim (Some d) ∷ todo) at (ap (λ a. begins_cleaning (record e { act = a })) (made-says f m e law (Todo.read_claim (Some d) ∷ todo) at))
+          next = quiet-next f.image p e (Todo.read_claim (Some d) ∷ todo) Unseen.ReadClaim at (made-says f m e law (Todo.read_claim (Some d) ∷ todo) at) refl
 
           which : (b : Bool) → (domain_in e.word).init ≡ b → fails now.reply ≡ false
           which true q = ap (λ (z : Processor). fails z.reply) (next ∙ ap (λ b. after_claim p d b 0 todo) q)
@@ -360,12 +427,12 @@ module _ (f : Fine) (m : State) (e : FineStep) (law : Lawful f m e) where
       by (Todo.hold ∷ todo) at = holds (frame Todo.hold todo at)
         where
           holds : Behind f.image Todo.hold todo → fails now.reply ≡ false
-          holds (inl h) = none Todo.hold todo at refl tt (ap (list_any is_move_done) h.2)
-          holds (inr h) = none Todo.hold todo at refl tt (ap (list_any is_move_done) h.3)
+          holds (inl h) = let (access, same, is) = h in none Todo.hold todo at refl tt (ap (list_any is_move_done) same ∙ done-access access is)
+          holds (inr h) = none Todo.hold todo at refl tt (ap (list_any is_move_done) (h.2 ∙ ap (λ (z : Todos). Todo.unshut h.0 ∷ z) h.3.3))
       by (q ∷ todo) at = goes-on q todo at refl refl tt
 
   pub held-domain-part : (s : State) → Leaves f m e s → (k : ℕ) → k < f.cpus → DomainKept later k
-  held-domain-part s leaves k l = by (e.cpu == k) refl
+  held-domain-part s how k l = by (e.cpu == k) refl
     where
       kth : Bool → Processor
       kth b = cond b (p_next f.image (f.processors k) e) (f.processors k)
@@ -375,7 +442,7 @@ module _ (f : Fine) (m : State) (e : FineStep) (law : Lawful f m e) where
           let at : f.processors e.cpu ≡ f.processors k = ap f.processors (eqb-true e.cpu k q) in
           let is : kth (e.cpu == k) ≡ now = ap kth q ∙ ap (λ (z : Processor). p_next f.image z e) (sym at) in
           record {
-            kept = λ h. ap (λ (z : Processor). z.domain) is ∙ (kept-mine (sym (ap has_held is) ∙ h) s leaves ∙ ap (λ (z : Processor). (word later z.context.thread).domain) (sym is));
+            kept = λ h. ap (λ (z : Processor). z.domain) is ∙ (kept-mine (sym (ap has_held is) ∙ h) s how ∙ ap (λ (z : Processor). (word later z.context.thread).domain) (sym is));
             moves = λ h. ap (λ (z : Processor). fails z.reply) is ∙ moves-mine (sym (ap (λ (z : Processor). list_any is_move_done z.todo) is) ∙ h);
             lives = λ h. ap (λ (z : Processor). z.context.ended) is ∙ lives-mine (sym (ap has_held is) ∙ h);
             ends = subst (λ (z : Processor). Ends z.context) (sym is) ends-mine;
@@ -386,7 +453,7 @@ module _ (f : Fine) (m : State) (e : FineStep) (law : Lawful f m e) where
             kept = λ h.
                 let held = sym (ap has_held is) ∙ h in
                 ap (λ (z : Processor). z.domain) is
-                ∙ ((was k l).kept held ∙ (sym (domain-stays k l held s leaves) ∙ ap (λ (z : Processor). (word later z.context.thread).domain) (sym is)));
+                ∙ ((was k l).kept held ∙ (sym (domain-stays k l held s how) ∙ ap (λ (z : Processor). (word later z.context.thread).domain) (sym is)));
             moves = λ h. ap (λ (z : Processor). fails z.reply) is ∙ (was k l).moves (sym (ap (λ (z : Processor). list_any is_move_done z.todo) is) ∙ h);
             lives = λ h. ap (λ (z : Processor). z.context.ended) is ∙ (was k l).lives (sym (ap has_held is) ∙ h);
             ends = subst (λ (z : Processor). Ends z.context) (sym is) (was k l).ends;

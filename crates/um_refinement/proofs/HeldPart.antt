@@ -1,14 +1,18 @@
 -- A thread is held by the processor that runs it, after every lawful step.
-use Rattle.um_refinement.proofs.Words.{◌≡◌, inl, inr, ℕ, ◌+◌, ◌<◌, Bool, true, false, cond, [], ◌∷◌, Some, None, refl, sym, ap, ◌∙◌, subst, arith, ◌==◌, ◌&&◌, if◌then◌else◌, nat_lt, list_any, and_parts, eqb-true, not-true, true≢false, Image, THREADS, Pending, State, Act, FineAct, Unseen, ThreadWord, thread_after, thread_after_act, is_visit, is_word_read, begins_cleaning, says, says_idle, says_show, shows, goes_on_by, p_next, with_cleaned, Todo, Todos, Processor, SiteState, s_next, same_site, site_after, site_takes, Exchange, FineStep, Site, AreBlocks, Fine, one_if, over_processors, thread_state, word, Behind, has_held, has_steps, is_let_go, runs_thread, Fits, and-false, thread_takes, HeldIs}
-use Rattle.um_fine.specs.Asks.{begins}
-use Rattle.um_refinement.proofs.ListGrowth.{ReadsLast, is_end}
+use Rattle.um_refinement.proofs.Words.{Life, ◌≡◌, inl, inr, ℕ, ◌+◌, ◌<◌, Bool, true, false, cond, [], ◌∷◌, Some, None, refl, sym, ap, ◌∙◌, subst, arith, ◌==◌, ◌&&◌, if◌then◌else◌, nat_lt, list_any, and_parts, eqb-true, not-true, true≢false, Image, THREADS, Pending, State, Act, FineAct, Unseen, ThreadWord, thread_after, thread_after_act, is_visit, is_word_read, begins_cleaning, says, says_idle, says_show, goes_on_by, p_next, with_cleaned, Todo, Todos, Processor, SiteState, s_next, same_site, site_after, site_takes, Exchange, FineStep, Site, AreBlocks, Fine, one_if, over_processors, thread_state, word, Behind, has_held, runs, is_let_go, runs_thread, and-false, thread_takes, HeldIs}
+use Rattle.um_fine.specs.Answers.{is_due_act, is_killed, is_shut_act, is_tick, is_void}
+use Rattle.um_fine.specs.Asks.{begins, says_turn}
+use Rattle.um_refinement.specs.Frames.{IsWaitOver, both, nothing, rereads, settled}
+use Rattle.um_refinement.proofs.Offered.{runs-first}
+use Rattle.um_refinement.proofs.TableReads.{access-grip}
+use Rattle.um_refinement.proofs.ListGrowth.{acted-kept, is_end}
 use Rattle.um_refinement.proofs.Erased.{around}
 use Rattle.um_refinement.proofs.Leaves.{Lawful}
-use Rattle.um_refinement.proofs.ListGrips.{filled-grip, grip, is_gripping, next-grips, next-thread, read-rests, takes-grip}
+use Rattle.um_refinement.proofs.ListGrips.{filled-grip, grip, is_gripping, next-grips, next-thread, takes-grip}
 use Rattle.um_refinement.proofs.ListRuns.{ends-rests, goes-runs}
 use Rattle.um_refinement.proofs.RowSteps.{thread-sort}
 use Rattle.um_refinement.proofs.SchedulerSteps.{made-at, made-says}
-use Rattle.um_refinement.proofs.StepReads.{is-behind}
+use Rattle.um_refinement.proofs.StepReads.{is-behind, reads-last}
 use Rattle.um_refinement.proofs.Sums.{over-changed}
 
 -- a step that holds a thread, or lets go of it
@@ -25,7 +29,7 @@ pub says-no-grip : (image : Image) (p : Processor) (q : Todo) (todo : Todos) (ac
 says-no-grip image p (Todo.show q rest) todo act moved free = by q
   where
     begins-no : (q : Pending) → grips (begins image p q act) ≡ false
-    begins-no q = elim (is_word_read act) as (λ b. grips (if b then FineAct.Unseen Unseen.WordRead else shows image p q act) ≡ false) [ true ↦ refl | false ↦ refl ]
+    begins-no q = either-no (is_word_read act) _ _ refl (either-no (is_killed act) _ _ refl refl)
 
     by : (q : Pending) → grips (says_show image p q act) ≡ false
     by Pending.Begin = begins-no Pending.Begin
@@ -34,14 +38,26 @@ says-no-grip image p (Todo.show q rest) todo act moved free = by q
 says-no-grip image p (Todo.pass who x) todo act moved free = either-no (is_visit act) _ _ refl refl
 says-no-grip image p (Todo.drop x) todo act moved free = either-no (is_visit act) _ _ refl refl
 says-no-grip image p (Todo.clean_pair who x) todo act moved free = either-no (is_visit act) _ _ refl refl
+says-no-grip image p (Todo.look who site before) todo act moved free = either-no (is_void act) _ _ refl refl
+says-no-grip image p (Todo.rouse who) todo act moved free = either-no (is_void act) _ _ refl refl
+says-no-grip image p (Todo.handle deadline mark) todo act moved free = either-no (is_void act) _ _ refl refl
+says-no-grip image p Todo.leave todo act moved free = either-no (is_shut_act act) _ _ refl refl
 says-no-grip image p Todo.hold todo act moved free = absurd (true≢false free)
 says-no-grip image p Todo.let_go todo act moved free = absurd (true≢false free)
 says-no-grip image p q todo act moved free = refl
 
-pub idle-no-grip : (image : Image) (p : Processor) (moved : Exchange) → grips (says_idle image p moved) ≡ false
-idle-no-grip image p (Exchange.thread c None) = refl
-idle-no-grip image p (Exchange.thread c (Some told)) = refl
-idle-no-grip image p moved = refl
+turn-no-grip : (image : Image) (p : Processor) (moved : Exchange) → grips (says_turn image p moved) ≡ false
+turn-no-grip image p (Exchange.thread c None) = refl
+turn-no-grip image p (Exchange.thread c (Some told)) = refl
+turn-no-grip image p moved = refl
+
+pub idle-no-grip : (image : Image) (p : Processor) (act : FineAct) (moved : Exchange) → grips (says_idle image p act moved) ≡ false
+idle-no-grip image p act moved = either-no (is_due_act act) _ _ refl (either-no (is_tick act) _ _ refl (turn-no-grip image p moved))
+
+flag-same : (life : Life) (P : Life → Type 0) → P Life.Unborn → P Life.Living → P Life.Ended → P life
+flag-same Life.Unborn P unborn living ended = unborn
+flag-same Life.Living P unborn living ended = living
+flag-same Life.Ended P unborn living ended = ended
 
 pub held-same : (w : ThreadWord) (act : FineAct) → grips act ≡ false → (thread_after w act).held ≡ w.held
 held-same w (FineAct.Shown event more) free = by event.act
@@ -53,6 +69,10 @@ held-same w (FineAct.Shown event more) free = by event.act
     by (Act.Doom who) = refl
     by (Act.Start who) = refl
     by Act.EnterUser = refl
+    by Act.Killed = refl
+    by (Act.Abort who done) = flag-same w.life (λ z. (thread_after_act (record w { life = z }) more (Act.Abort who done)).held ≡ w.held) refl refl refl
+    by (Act.Suspend who done) = flag-same w.life (λ z. (thread_after_act (record w { life = z }) more (Act.Suspend who done)).held ≡ w.held) refl refl refl
+    by (Act.Continue who done) = flag-same w.life (λ z. (thread_after_act (record w { life = z }) more (Act.Continue who done)).held ≡ w.held) refl refl refl
     by act = refl
 held-same w (FineAct.Unseen Unseen.Hold) free = absurd (true≢false free)
 held-same w (FineAct.Unseen Unseen.LetGo) free = absurd (true≢false free)
@@ -61,6 +81,12 @@ held-same w (FineAct.Unseen u) free = refl
 and-true : (b : Bool) → (b && true) ≡ b
 and-true true = refl
 and-true false = refl
+
+pub over-grip : (todo : Todos) → IsWaitOver todo → (grip (Todo.let_go ∷ todo) ≡ true) × (grip todo ≡ false)
+over-grip _ nothing = (refl, refl)
+over-grip _ settled = (refl, refl)
+over-grip _ rereads = (refl, refl)
+over-grip _ both = (refl, refl)
 
 module _ (f : Fine) (m : State) (e : FineStep) (law : Lawful f m e) (t : ℕ) (few : t < THREADS) where
   open around f e use {later, processor as p}
@@ -108,15 +134,19 @@ module _ (f : Fine) (m : State) (e : FineStep) (law : Lawful f m e) (t : ℕ) (f
       let now = ap one_if held in
       record { held = omega (arith, sums, before, now) }
 
-  -- what holds of a list with these steps
-  holds-as : (z : Processor) (steps grip-there : Bool) → has_steps z.todo ≡ steps → grip z.todo ≡ grip-there → holds z ≡ ((steps && (z.context.thread == t)) && grip-there)
-  holds-as z steps grip-there s g = λ i. (s i && (z.context.thread == t)) && g i
+  -- what holds of one that runs a thread or not, and of a list with these steps
+  holds-as : (z : Processor) (on grip-there : Bool) → runs z ≡ on → grip z.todo ≡ grip-there → holds z ≡ ((on && (z.context.thread == t)) && grip-there)
+  holds-as z on grip-there s g = λ i. (s i && (z.context.thread == t)) && g i
 
   not-holding : (z : Processor) → grip z.todo ≡ false → one_if (holds z) ≡ 0
-  not-holding z g = ap one_if (holds-as z (has_steps z.todo) false refl g ∙ and-false (has_steps z.todo && (z.context.thread == t)))
+  not-holding z g = ap one_if (holds-as z (runs z) false refl g ∙ and-false (runs z && (z.context.thread == t)))
 
-  holding : (z : Processor) → has_steps z.todo ≡ true → grip z.todo ≡ true → one_if (holds z) ≡ one_if (z.context.thread == t)
+  holding : (z : Processor) → runs z ≡ true → grip z.todo ≡ true → one_if (holds z) ≡ one_if (z.context.thread == t)
   holding z s g = ap one_if (holds-as z true true s g ∙ and-true (z.context.thread == t))
+
+  goes-so : (q : Todo) (todo : Todos) → p.todo ≡ q ∷ todo → is_end q ≡ false → runs (p_next f.image p e) ≡ runs p
+  goes-so q todo at goes =
+      goes-runs f.image p e q todo at goes (frame q todo at) (reads-last f m e law q todo at) (subst (AreBlocks f.image) at (law.rel.processors e.cpu law.by.named).blocks)
 
   -- a hold, or its end: where the word of the thread is, and what it and the list are then
   record IsGrip (q : Todo) (todo : Todos) (u : Unseen) : Type 0 where
@@ -129,8 +159,9 @@ module _ (f : Fine) (m : State) (e : FineStep) (law : Lawful f m e) (t : ℕ) (f
   grip-made q todo u at said site quiet =
       record {
         list =
-            ap (λ b. (with_cleaned f.image (goes_on_by f.image p e p.todo) e b).todo) (ap (λ a. begins_cleaning (record e { act = a })) said ∙ quiet)
-            ∙ ap (λ (z : Todos). (goes_on_by f.image p e z).todo) at;
+            acted-kept f.image (λ todo. todo ≡ (with_cleaned f.image (goes_on_by f.image p e p.todo) e (begins_cleaning e)).todo) (with_cleaned f.image (goes_on_by f.image p e p.todo) e (begins_cleaning e)) e.act refl
+            ∙ (ap (λ b. (with_cleaned f.image (goes_on_by f.image p e p.todo) e b).todo) (ap (λ a. begins_cleaning (record e { act = a })) said ∙ quiet)
+            ∙ ap (λ (z : Todos). (goes_on_by f.image p e z).todo) at);
         here = λ q. (
           takes-here p.context.thread (FineAct.Unseen u) site said (eqb-true p.context.thread t q),
           word-here (ap (λ i. same_site i (Site.thread t)) site ∙ q) ∙ ap (λ a. (thread_after (word f t) a).held) said,
@@ -151,15 +182,18 @@ module _ (f : Fine) (m : State) (e : FineStep) (law : Lawful f m e) (t : ℕ) (f
       before : one_if (holds p) ≡ 0
       before = not-holding p (ap grip at ∙ and-false (list_any is_let_go todo))
 
-      shape : Behind f.image Todo.hold todo → (has_steps todo ≡ true) × (grip todo ≡ true)
-      shape (inl h) = (ap has_steps h.2, ap grip h.2)
-      shape (inr h) = (ap has_steps h.3, ap grip h.3)
+      on : runs p ≡ true
+      on = runs-first law.rel law.by.named Todo.hold todo at (λ hand. hand)
 
-      by : (b : Bool) → (p.context.thread == t) ≡ b → (has_steps todo ≡ true) × (grip todo ≡ true) → HeldIs later t
+      shape : Behind f.image Todo.hold todo → grip todo ≡ true
+      shape (inl h) = ap grip (h.1 ∙ ap (λ (z : Todos). Todo.read_claim None ∷ Todo.region_load ∷ z) h.2.3) ∙ access-grip h.2.2 h.2.5
+      shape (inr h) = ap grip (h.2 ∙ ap (λ (z : Todos). Todo.unshut h.0 ∷ z) h.3.3)
+
+      by : (b : Bool) → (p.context.thread == t) ≡ b → grip todo ≡ true → HeldIs later t
       by b q h = which b q
         where
           after : (b : Bool) → (p.context.thread == t) ≡ b → one_if (holds (p_next f.image p e)) ≡ one_if b
-          after b q = holding (p_next f.image p e) (ap has_steps made.list ∙ h.0) (ap grip made.list ∙ h.1) ∙ ap one_if (ap (λ n. n == t) same ∙ q)
+          after b q = holding (p_next f.image p e) (goes-so Todo.hold todo at refl ∙ on) (ap grip made.list ∙ h) ∙ ap one_if (ap (λ n. n == t) same ∙ q)
 
           which : (b : Bool) → (p.context.thread == t) ≡ b → HeldIs later t
           which true q =
@@ -177,14 +211,14 @@ module _ (f : Fine) (m : State) (e : FineStep) (law : Lawful f m e) (t : ℕ) (f
       made = grip-made Todo.let_go todo Unseen.LetGo at (made-says f m e law (Todo.let_go ∷ todo) at) (made-at f m e law (Todo.let_go ∷ todo) at) refl
 
       shape : Behind f.image Todo.let_go todo → (grip (Todo.let_go ∷ todo) ≡ true) × (grip todo ≡ false)
-      shape (inl h) = (ap (λ (z : Todos). grip (Todo.let_go ∷ z)) h, ap grip h)
+      shape (inl h) = over-grip todo h
       shape (inr h) = (ap (λ (z : Todos). grip (Todo.let_go ∷ z)) h.1, ap grip h.1)
 
       by : (b : Bool) → (p.context.thread == t) ≡ b → (grip (Todo.let_go ∷ todo) ≡ true) × (grip todo ≡ false) → HeldIs later t
       by b q h = which b q
         where
           before : (b : Bool) → (p.context.thread == t) ≡ b → one_if (holds p) ≡ one_if b
-          before b q = holding p (ap has_steps at) (ap grip at ∙ h.0) ∙ ap one_if q
+          before b q = holding p (runs-first law.rel law.by.named Todo.let_go todo at (λ hand. hand)) (ap grip at ∙ h.0) ∙ ap one_if q
 
           after : one_if (holds (p_next f.image p e)) ≡ 0
           after = not-holding (p_next f.image p e) (ap grip made.list ∙ (filled-grip f.image p.context todo ∙ h.1))
@@ -198,13 +232,12 @@ module _ (f : Fine) (m : State) (e : FineStep) (law : Lawful f m e) (t : ℕ) (f
           which false q = still (after ∙ sym (before false q)) (made.other q)
 
   -- any other step
-  goes-on : (q : Todo) (todo : Todos) → p.todo ≡ q ∷ todo → is_gripping q ≡ false → is_end q ≡ false → ReadsLast e q todo → HeldIs later t
-  goes-on q todo at free goes read =
-      let k = law.rel.processors e.cpu law.by.named in
-      let steps = goes-runs f.image p e q todo at goes (frame q todo at) (subst (AreBlocks f.image) at k.blocks) in
-      let grips-same = next-grips f.image p e q todo at free (frame q todo at) read in
+  goes-on : (q : Todo) (todo : Todos) → p.todo ≡ q ∷ todo → is_gripping q ≡ false → is_end q ≡ false → HeldIs later t
+  goes-on q todo at free goes =
+      let steps = goes-so q todo at goes in
+      let grips-same = next-grips f.image p e q todo at free (frame q todo at) (reads-last f m e law q todo at) in
       let thread = next-thread f.image p e q todo at goes in
-      still (λ i. one_if (((steps ∙ sym (ap has_steps at)) i && (thread i == t)) && (grips-same ∙ sym (ap grip at)) i))
+      still (λ i. one_if ((steps i && (thread i == t)) && (grips-same ∙ sym (ap grip at)) i))
       (word-same (ap grips (made-says f m e law (q ∷ todo) at) ∙ says-no-grip f.image p q todo e.act e.moved free))
 
   ends : (q : Todo) (todo : Todos) → p.todo ≡ q ∷ todo → is_gripping q ≡ false → is_end q ≡ true → begins_cleaning e ≡ false → grip (q ∷ todo) ≡ false → HeldIs later t
@@ -215,19 +248,16 @@ module _ (f : Fine) (m : State) (e : FineStep) (law : Lawful f m e) (t : ℕ) (f
   by-todo : (todo : Todos) → p.todo ≡ todo → HeldIs later t
   by-todo [] at =
       still (not-holding (p_next f.image p e) (takes-grip f.image p e at) ∙ sym (not-holding p (ap grip at)))
-      (word-same (ap grips (made-says f m e law [] at) ∙ idle-no-grip f.image p e.moved))
+      (word-same (ap grips (made-says f m e law [] at) ∙ idle-no-grip f.image p e.act e.moved))
   by-todo (Todo.hold ∷ todo) at = takes-hold todo at
   by-todo (Todo.let_go ∷ todo) at = lets-go todo at
   by-todo (Todo.park ∷ todo) at =
       ends Todo.park todo at refl refl (ap (λ a. begins_cleaning (record e { act = a })) (made-says f m e law (Todo.park ∷ todo) at)) (ap grip (frame Todo.park todo at))
   by-todo (Todo.done ∷ todo) at =
       ends Todo.done todo at refl refl (ap (λ a. begins_cleaning (record e { act = a })) (made-says f m e law (Todo.done ∷ todo) at)) (ap grip (frame Todo.done todo at))
-  by-todo (Todo.show q rest ∷ todo) at =
-      goes-on (Todo.show q rest) todo at refl refl
-      (λ read.
-      (subst (Fits f.image p.context) at (law.rel.processors e.cpu law.by.named).list.fits).1
-      ∙ read-rests f.image p p.context q e.act (made-says f m e law (Todo.show q rest ∷ todo) at) read)
-  by-todo (q ∷ todo) at = goes-on q todo at refl refl tt
+  by-todo (Todo.paid ∷ todo) at =
+      ends Todo.paid todo at refl refl (ap (λ a. begins_cleaning (record e { act = a })) (made-says f m e law (Todo.paid ∷ todo) at)) (ap grip (frame Todo.paid todo at))
+  by-todo (q ∷ todo) at = goes-on q todo at refl refl
 
   pub held-part : HeldIs later t
   held-part = by-todo p.todo refl

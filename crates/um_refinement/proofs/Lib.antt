@@ -6,9 +6,11 @@
 -- that events are steps of the machine where the relation holds (Says, Offered, HeldRows, Shown and the files of steps). What the machine's state is
 -- known to be in a run is in the files named Known, CallSteps, CallsProper, Reachable and, of message queues, QueueSteps, QueuesKept and
 -- QueuesAfter. CellSteps and Endings are what a step makes of the cell of an object, and of a thread that has ended. IdleComplete and
--- the files named Stuck show that where no processor can step the machine can't either, CompleteRuns what that says of fine runs, and Waiting what one waits for that can't. What they ask for
+-- the files named Stuck show that where no processor can step the machine can't either, CompleteRuns what that says of fine runs, ChosenStuck that it is enough if no chosen step is left, QuietIdle that one look at the scheduler's word can show it, and Waiting what one waits for that can't. What they ask for
 -- is so along each fine run where words can count: CallBounds, Bounds and the files of those names have what bounds calls, lists and the scheduler, and
 -- ClearsKnown and the files named Room what follows from that.
+-- Of time, the files named Arm, Clock, Due, Expiry, Mark, Owed, Time and Unarmed; of who waits, Wait; of notes, of cuts and of looks those named Note, Cut and Look;
+-- of who sleeps, Sleep and Rousing; of indices that nobody joins, Shut; and Taking is what a processor does that has no list.
 mod Words
 pub mod Erased
 pub mod ThreadLists
@@ -35,6 +37,7 @@ pub mod HeapSteps
 pub mod HeldRows
 pub mod WorkSteps
 pub mod OwnKept
+pub mod OwnObjects
 pub mod OfKept
 pub mod VisitSteps
 pub mod DropSteps
@@ -54,6 +57,7 @@ pub mod FirstObjects
 pub mod FirstReady
 pub mod Opens
 pub mod FirstLawful
+pub mod FirstOwned
 pub mod Reachable
 pub mod Leaves
 pub mod ObjectsKept
@@ -61,8 +65,12 @@ pub mod HeapPart
 pub mod PairsPart
 pub mod Sums
 pub mod SchedulerSteps
+pub mod ListCuts
+pub mod CuttersKept
+pub mod WaitingSites
 pub mod StepReads
 pub mod ListRuns
+pub mod ListStarts
 pub mod RunningPart
 pub mod SchedulerPart
 pub mod PlacesFacts
@@ -90,6 +98,7 @@ pub mod CallsKnown
 pub mod DomainsKnown
 pub mod CallSteps
 pub mod ChildSteps
+pub mod EachUncut
 pub mod ChildrenKnown
 pub mod CallsProper
 pub mod LawfulSteps
@@ -97,12 +106,15 @@ pub mod SuitsKnown
 pub mod NamesKnown
 pub mod ContentsPart
 pub mod StatusKept
+pub mod StatusSteps
+pub mod StatusUnseen
 pub mod StatusPart
 pub mod ChargedPart
 pub mod CleanerPart
 pub mod ListVisits
 pub mod ListDues
 pub mod DuesFilled
+pub mod DuesLooked
 pub mod DuesPart
 pub mod EmptiedPart
 pub mod ReplyPart
@@ -110,29 +122,39 @@ pub mod IdlePart
 pub mod LifeClaims
 pub mod RowStages
 pub mod ParkedClaims
+pub mod StagedPart
 pub mod ClaimsPart
 pub mod HeldDomainPart
 pub mod Parts
 pub mod ErasedRuns
 pub mod IdleComplete
 pub mod Stuck
+pub mod EventFacts
 pub mod StuckEvents
 pub mod StuckLists
 pub mod StuckComplete
 pub mod Waiting
 pub mod CompleteRuns
+pub mod ChosenStuck
+pub mod QuietIdle
 pub mod MemoryPart
 pub mod WordsPart
+pub mod Taking
 pub mod PartsElsewhere
 pub mod ListAdders
 pub mod OfVisits
 pub mod ContextsPart
+pub mod AddedPart
+pub mod ParkedPart
+pub mod Rousing
 pub mod OncePart
 pub mod ListDone
 pub mod DonePart
 pub mod AwayPart
 pub mod ListWakes
 pub mod ToldFacts
+pub mod ToldSteps
+pub mod ToldBeside
 pub mod ToldPart
 pub mod QueueSteps
 pub mod QueuesKept
@@ -148,6 +170,7 @@ pub mod RowStands
 pub mod Bounds
 pub mod FirstBounds
 pub mod SchedulerBounds
+pub mod BoundsWoken
 pub mod BoundsKept
 pub mod BoundedRuns
 pub mod CleanRoom
@@ -155,3 +178,68 @@ pub mod ReadyRoom
 pub mod ClaimRoom
 pub mod ClearsKnown
 pub mod RoomKnown
+pub mod CellSites
+pub mod ContentsBeside
+pub mod ContentsLeft
+pub mod CutPart
+pub mod CutComesPart
+pub mod FirstStops
+pub mod FirstWaits
+pub mod FutexSteps
+pub mod HandReads
+pub mod JoinSteps
+pub mod JoinsPart
+pub mod ShutAlone
+pub mod ShutDead
+pub mod ShutMarked
+pub mod ShutOpened
+pub mod ShutBegins
+pub mod ShutClears
+pub mod LeaveSteps
+pub mod LookPart
+pub mod LooksListed
+pub mod LooksMade
+pub mod NoteCells
+pub mod Lying
+pub mod LooksPart
+pub mod NoteNumbers
+pub mod NoteSteps
+pub mod NotesCall
+pub mod NotedCalls
+pub mod NoteFacts
+pub mod NotesBegun
+pub mod NotesHeld
+pub mod NotesKept
+pub mod NotesPut
+pub mod NotesThere
+pub mod WaitNotes
+pub mod WaitsKept
+pub mod WaitsNoted
+pub mod SearchSteps
+pub mod SleepFlags
+pub mod SleepPart
+pub mod StopSteps
+pub mod TailsKept
+pub mod TimeSteps
+pub mod WaitersFound
+pub mod ArmSteps
+pub mod ArmsGone
+pub mod ArmsKnown
+pub mod ClockPart
+pub mod ClockSteps
+pub mod ExpiryPart
+pub mod KillsKnown
+pub mod ListArms
+pub mod ListMarks
+pub mod MarkFacts
+pub mod MarksPart
+pub mod OwedPart
+pub mod TimeoutPart
+pub mod TimerPart
+pub mod TimersMade
+pub mod ToCome
+pub mod UnarmedPart
+pub mod VoidLooks
+pub mod WaitSteps
+pub mod WaitersKnown
+pub mod WaitersLeft

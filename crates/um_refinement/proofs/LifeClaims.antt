@@ -2,6 +2,7 @@
 -- permission on a new thread's own object, its start, and the clearing of its mark at its end.
 use Rattle.um_refinement.proofs.Words.{◌≡◌, ℕ, ◌+◌, ◌<◌, Bool, true, false, length, Option, Some, None, refl, sym, ap, ◌∙◌, arith, ℤ, ◌==◌, ◌&&◌, not, if◌then◌else◌, false≢true, Image, THREADS, Addr, Mode, Row, ThreadIx, own_row, Pending, Thread, Steps, State, object_at, thread_at, with_object, with_thread, Next, gone, one_if, total, Ignores, all_other, effects_of, key-same, keys-wrote, next_of, wrote, length-map, keys, set-keys, changed-same, held-same}
 use Rattle.um_machine.specs.Table as T
+use Rattle.um_machine.specs.Writes.{cut}
 use Rattle.um_machine.proofs.EffectLemmas as E
 use Rattle.um_refinement.specs.Claims.{creates}
 use Rattle.um_refinement.proofs.Sums.{total-one, total-same}
@@ -16,11 +17,12 @@ abbrev key_of : Thread → Key
 key_of me = record { keeps = me.keeps_own; child = me.child }
 
 ignores : Ignores key_of all_other
-ignores = record { due = λ h me due. refl; told = λ h me told. refl; domain = λ h me domain. refl; doomed = λ h me. refl }
+ignores = record { due = λ h me due. refl; told = λ h me told. refl; domain = λ h me domain. refl; doomed = λ h me. refl; flagged = λ h me aborted suspended. refl }
 
 -- the steps that leave that of all threads: a thread that ends has no child
 abbrev pub Stays : Option ThreadIx → Pending → Type 0
 Stays child Pending.Exit = child ≡ None
+Stays child Pending.Killed = child ≡ None
 Stays child (Pending.Fatal reason cause) = child ≡ None
 Stays child (Pending.Own who) = ⊥
 Stays child (Pending.Start who script stack priority mode) = ⊥
@@ -36,7 +38,7 @@ KeepsKey (Next.fatal reason) = ⊥
 KeepsKey next = Unit {0}
 
 gone-key : (left : Steps) (u : State) (t : ℕ) (next : Next) (me : Thread) → KeepsKey next → key_of (gone left u t next me) ≡ key_of me
-gone-key left u t (Next.on change way) me h = changed-same key_of (λ me registers reply buffer. refl) change me
+gone-key left u t (Next.on change way) me h = changed-same key_of (λ me registers reply buffer until. refl) change me
 gone-key left u t (Next.checks x v way) me h = held-same key_of (λ me checked. refl) x v me
 gone-key left u t (Next.begins None) me h = refl
 gone-key left u t (Next.begins (Some instr)) me h = refl
@@ -58,6 +60,8 @@ module _ (m : State) (t x : ℕ) where
 
   pub keys-after : (q : Pending) (rest : Steps) → Stays me.child q → keys key_of (T.after m t x q rest) ≡ keys key_of m
   keys-after Pending.Exit rest h = ends-alike _ refl refl h
+  keys-after Pending.Killed rest h = ends-alike _ refl refl h
+  keys-after (Pending.Cut who) rest h = set-keys key_of m.threads who.0 (cut (thread_at m who.0)) refl
   keys-after (Pending.Fatal reason cause) rest h = ends-alike _ refl refl h
   keys-after (Pending.Own who) rest h = absurd h
   keys-after (Pending.Start who script stack priority mode) rest h = absurd h

@@ -1,7 +1,9 @@
 -- What each fine step changes of the claims that its processor has still to end.
-use Rattle.um_refinement.proofs.Words.{◌≡◌, ℕ, ◌+◌, Bool, true, false, List, [], ◌∷◌, ◌++◌, Option, Some, None, refl, ap, ◌∙◌, arith, ◌==◌, if◌then◌else◌, Act, Told, Image, Instr, Addr, Errno, ThreadIx, own_row, thread_of_row, Pending, Steps, instruction_at, row_named, act_in, context_in, domain_in, is_visit, is_word_read, outcome_in, verdict_in, Context, Exchange, FineStep, continues, resumed, Todo, Todos, cleaning, cleaning_of, end_of_turn, fine_steps, is_cleaning_todo, next_steps, turn_of, with_cleaning, Processor, after_claim, after_show, after_take, behind_step, dropped_at, end_calls, filled_up, goes_on_by, p_next, row_number, wakes, with_cleaned, begins_cleaning, counted, is_end_call, names_row, occurs, call_claims, false≢true, true≢false, held_part}
+use Rattle.um_refinement.proofs.Words.{◌≡◌, ℕ, ◌+◌, Bool, true, false, List, [], ◌∷◌, ◌++◌, Option, Some, None, refl, ap, ◌∙◌, arith, ◌==◌, if◌then◌else◌, Act, Answer, Told, Image, Instr, Addr, Errno, ThreadIx, own_row, thread_of_row, Pending, Steps, instruction_at, row_named, act_in, answer_in, context_in, domain_in, is_visit, is_word_read, outcome_in, thread_in, verdict_in, is_empty, FineAct, Context, Exchange, FineStep, continues, resumed, Todo, Todos, cleaning, cleaning_of, end_of_turn, fine_steps, is_cleaning_todo, next_steps, turn, turn_of, with_cleaning, Processor, after_claim, after_show, after_take, behind_step, dropped_at, end_calls, filled_up, goes_on_by, p_next, refilled_by, row_number, wakes, with_cleaned, begins_cleaning, counted, is_end_call, names_row, occurs, call_claims, false≢true, true≢false, held_part}
+use Rattle.um_fine.specs.Follows.{looks_behind, rereads, shown_step, waits_behind, with_actor}
+use Rattle.um_fine.specs.Places.{noted_cell, put_away}
 use Rattle.um_refinement.proofs.Continued.{Held, continues-held, resumed-held}
-use Rattle.um_refinement.proofs.ListGrowth.{cleaning-kept, either-look, is_shown, next-kept, visits_row, is_end, quiet-kept}
+use Rattle.um_refinement.proofs.ListGrowth.{cleaning-kept, errands-kept, forms-kept, is_end, is_errand, is_shown, next-kept, quiet-kept, visits_row}
 
 -- an expansion ends no call
 module _ (image : Image) (x : ℕ) where
@@ -12,9 +14,24 @@ module _ (image : Image) (x : ℕ) where
   All c = Unit {0}
 
   fine-none : (c : Context) (q : Pending) (rest : Steps) → counted (is_end_call x) (fine_steps image c q rest) ≡ 0
-  fine-none c (Pending.Probe a amount) rest = either-look image (Is 0) amount _ (λ x h. h) refl
-  fine-none c (Pending.CopyIn a amount) rest = either-look image (Is 0) amount _ (λ x h. h) refl
-  fine-none c q rest = refl
+  fine-none = forms-kept image (Is 0)
+      (record {
+        note = λ site todo h. h;
+        act = λ q rest. refl;
+        settles = λ q rest deadline mark. refl;
+        access = λ q rest. refl;
+        access_settles = λ q rest deadline mark. refl;
+        look = λ x todo h. h;
+        owe = λ q rest. refl;
+        leave = λ a rest. refl;
+        edit = λ d q rest. refl;
+        move = λ d who rest. refl;
+        start = λ who q rest c. refl;
+      })
+
+  errand : (n : ℕ) (q : Todo) (todo : Todos) → is_errand q ≡ true → Is n todo → Is n (q ∷ todo)
+  errand n (Todo.end_call y) todo on h = absurd (false≢true on)
+  errand n q todo on h = h
 
   put : (n : ℕ) (q : Todo) (todo : Todos) → visits_row q ≡ true → names_row q ≡ true → Is n todo → Is n (q ∷ todo)
   put n (Todo.end_call y) todo visit few h = absurd (false≢true visit)
@@ -32,9 +49,14 @@ module _ (image : Image) (x : ℕ) where
       → counted (is_end_call x) (goes_on_by image p e (q ∷ todo)).todo ≡ counted (is_end_call x) todo
   goes-same p e Todo.park todo quiet on = absurd (true≢false on)
   goes-same p e Todo.done todo quiet on = absurd (true≢false on)
+  goes-same p e Todo.paid todo quiet on = absurd (true≢false on)
   goes-same p e (Todo.show q rest) todo quiet on = absurd (true≢false quiet)
+  goes-same p e (Todo.rouse who) todo quiet on =
+      let n = counted (is_end_call x) todo in
+      quiet-kept image (Is n) All (expands n) p (errand n) (put n) (λ who y z few k. k) (λ z k. k) (λ d z k. k) e (Todo.rouse who) todo refl tt (λ found z k. k) refl
   goes-same p e q todo quiet on =
-      let n = counted (is_end_call x) todo in quiet-kept image (Is n) All (expands n) p (put n) (λ who y z few k. k) (λ z k. k) (λ d z k. k) e q todo refl tt tt refl
+      let n = counted (is_end_call x) todo in
+      quiet-kept image (Is n) All (expands n) p (errand n) (put n) (λ who y z few k. k) (λ z k. k) (λ d z k. k) e q todo refl tt tt refl
 
   pub wakes-same : (ws : List (ThreadIx × Told)) (todo : Todos) → counted (is_end_call x) (wakes ws todo) ≡ counted (is_end_call x) todo
   wakes-same [] todo = refl
@@ -51,6 +73,22 @@ module _ (image : Image) (x : ℕ) where
   claims-more (z ∷ zs) y =
       let h = claims-more zs y in
       elim (x == z) as (λ b. (if b then occurs x (zs ++ y ∷ []) + 1 else occurs x (zs ++ y ∷ [])) ≡ (if b then occurs x zs + 1 else occurs x zs) + occurs x (y ∷ [])) [ true ↦ omega arith | false ↦ h ]
+
+  -- nor does a second read of the word, or what stands behind an event that stops another thread or goes on with it
+  append-same : (todo : Todos) (site : ℕ) → counted (is_end_call x) (todo ++ Todo.reread site ∷ []) ≡ counted (is_end_call x) todo
+  append-same [] site = refl
+  append-same (q ∷ todo) site = ap (λ n. if is_end_call x q then n + 1 else n) (append-same todo site)
+
+  rereads-same : (answer : Answer) (site : Option ℕ) (todo : Todos) → counted (is_end_call x) (rereads image answer site todo) ≡ counted (is_end_call x) todo
+  rereads-same Answer.Wait (Some site) todo = append-same todo site
+  rereads-same Answer.Wait None todo = refl
+  rereads-same (Answer.Now reply) site todo = refl
+
+  pub waits-same : (q : Pending) (e : FineStep) (todo : Todos) → counted (is_end_call x) (waits_behind image q e todo) ≡ counted (is_end_call x) todo
+  waits-same q e todo = rereads-same (answer_in (act_in e.act)) (noted_cell image (q ∷ [])) todo
+
+  pub looks-same : (c : Context) (q : Pending) (e : FineStep) (todo : Todos) → counted (is_end_call x) (looks_behind image c q e todo) ≡ counted (is_end_call x) todo
+  looks-same c q e todo = let n = counted (is_end_call x) todo in errands-kept image (Is n) (errand n) c q e todo refl
 
 -- what an event takes: a claim of a check that is passed, and at the end that of the thread's life
 abbrev pub come : Image → ℕ → Context → Pending → Act → ℕ
@@ -89,6 +127,7 @@ module _ (image : Image) (x : ℕ) where
       → occurs x (continues image c 0 q rest act moved).claims + counted (is_end_call x) (behind_step image c q moved todo)
       ≡ occurs x c.claims + counted (is_end_call x) todo + come image x c q act
   shown-claims c Pending.Exit rest act moved todo = ended-claims c.claims todo
+  shown-claims c Pending.Killed rest act moved todo = ended-claims c.claims todo
   shown-claims c (Pending.Check a kind want refusal) rest act moved todo = check-claims c a (verdict_in act) todo
   shown-claims c (Pending.Work a ask) rest act moved todo =
       same-form _ _ _ _ (ap (λ (h : Held). occurs x h.1) (continues-held image c 0 (Pending.Work a ask) rest act moved tt)) (wakes-same image x (outcome_in moved).woken todo)
@@ -113,13 +152,15 @@ module _ (image : Image) (x : ℕ) where
   -- what a step takes of claims, and what it gives back
   abbrev pub come_to : Processor → FineStep → Todos → ℕ
   come_to p e [] = occurs x (context_in e.moved).claims
-  come_to p e (Todo.show q rest ∷ todo) = if is_word_read e.act then 0 else come image x p.context q (act_in e.act)
+  come_to p e (Todo.show q rest ∷ todo) = if is_word_read e.act then 0 else come image x p.context (shown_step image q e.act) (act_in e.act)
   come_to p e _ = 0
 
   abbrev pub gone : Processor → FineStep → Todos → ℕ
   gone p e (Todo.end_call y ∷ todo) = if x == y then 1 else 0
   gone p e (Todo.park ∷ todo) = occurs x p.context.claims + counted (is_end_call x) todo
   gone p e (Todo.done ∷ todo) = occurs x p.context.claims + counted (is_end_call x) todo
+  gone p e (Todo.sleep ∷ todo) = occurs x p.context.claims
+  gone p e (Todo.paid ∷ todo) = counted (is_end_call x) todo
   gone p e (Todo.show q rest ∷ todo) = if is_word_read e.act then counted (is_end_call x) todo else 0
   gone p e _ = 0
 
@@ -135,28 +176,42 @@ module _ (image : Image) (x : ℕ) where
   short-form : (a b b' : ℕ) → b' ≡ b → a + b' + 0 ≡ a + b + 0
   short-form a b b' h = omega arith
 
-  show-form : (p : Processor) (e : FineStep) (q : Pending) (rest : Steps) (todo : Todos) (b : Bool)
-      → call_claims x (if b then record p { todo = Todo.done ∷ [] } else after_show image p e q rest todo) + (if b then counted (is_end_call x) todo else 0)
-      ≡ occurs x p.context.claims + counted (is_end_call x) todo + (if b then 0 else come image x p.context q (act_in e.act))
-  show-form p e q rest todo true = omega arith
-  show-form p e q rest todo false =
-      let c = continues image p.context 0 q rest (act_in e.act) e.moved in
-      let h = shown-claims p.context q rest (act_in e.act) e.moved (filled_up image c todo) in
-      let k = filled-same image x c todo in omega arith
+  away-none : (doomed : Bool) → counted (is_end_call x) (put_away doomed) ≡ 0
+  away-none true = refl
+  away-none false = refl
 
-  taken-form : (p : Processor) (moved : Exchange) → p.context.claims ≡ [] → IsThread moved → call_claims x (after_take image p moved) + 0 ≡ occurs x p.context.claims + 0 + occurs x (context_in moved).claims
-  taken-form p (Exchange.thread c None) h m = let e = ap (occurs x) h in let k = turn-count (instruction_at image c.place) in omega arith
+  show-form : (p : Processor) (e : FineStep) (q : Pending) (rest : Steps) (todo : Todos) (b : Bool)
+      → call_claims x (if b then record p { todo = put_away (thread_in e.word).doomed } else after_show image p e (shown_step image q e.act) rest todo) + (if b then counted (is_end_call x) todo else 0)
+      ≡ occurs x p.context.claims + counted (is_end_call x) todo + (if b then 0 else come image x p.context (shown_step image q e.act) (act_in e.act))
+  show-form p e q rest todo true = let none = away-none (thread_in e.word).doomed in omega (arith, none)
+  show-form p e q rest todo false =
+      let made = shown_step image q e.act in
+      let c = continues image p.context 0 made rest (act_in e.act) e.moved in
+      let there = waits_behind image made e todo in
+      let h = shown-claims p.context made rest (act_in e.act) e.moved (filled_up image c there) in
+      let k = filled-same image x c there in
+      let l = waits-same image x made e todo in
+      let n = looks-same image x p.context made e (behind_step image p.context made e.moved (filled_up image c there)) in omega (arith, h, k, l, n)
+
+  turn-count : (instr : Option Instr) → counted (is_end_call x) (turn_of image instr) ≡ 0
+  turn-count None = refl
+  turn-count (Some instr) = refl
+
+  -- a thread comes with what its call holds, and anything else with nothing
+  taken-form : (p : Processor) (moved : Exchange) → p.context.claims ≡ [] → p.todo ≡ [] → call_claims x (after_take image p moved) + 0 ≡ occurs x p.context.claims + 0 + occurs x (context_in moved).claims
+  taken-form p (Exchange.thread c None) h idle = by (is_empty c.pending)
     where
-      turn-count : (instr : Option Instr) → counted (is_end_call x) (turn_of image instr) ≡ 0
-      turn-count None = refl
-      turn-count (Some instr) = refl
-  taken-form p (Exchange.thread c (Some told)) h m =
+      by : (b : Bool) → call_claims x (if b then record p { context = c; todo = turn image c } else refilled_by image (record p { context = c }) []) + 0 ≡ occurs x p.context.claims + 0 + occurs x c.claims
+      by true = let e = ap (occurs x) h in let k = turn-count (instruction_at image c.place) in omega (arith, e, k)
+      by false = let e = ap (occurs x) h in let k = filled-same image x c [] in omega (arith, e, k)
+  taken-form p (Exchange.thread c (Some told)) h idle =
       let e = ap (occurs x) h in
       let k = filled-same image x (resumed image c told) [] in
-      let l = ap (λ (h : Held). occurs x h.1) (resumed-held image c told) in omega arith
-  taken-form p _ h m = absurd m
+      let l = ap (λ (h : Held). occurs x h.1) (resumed-held image c told) in omega (arith, e, k, l)
+  taken-form p (Exchange.mark deadline mark) h idle = omega arith
+  taken-form p moved h idle = let none = ap (counted (is_end_call x)) idle in omega (arith, none)
 
-  goes-claims : (p : Processor) (e : FineStep) (todo : Todos) → ((todo ≡ []) → (p.context.claims ≡ []) × IsThread e.moved)
+  goes-claims : (p : Processor) (e : FineStep) (todo : Todos) → ((todo ≡ []) → (p.context.claims ≡ []) × (p.todo ≡ []))
       → call_claims x (goes_on_by image p e todo) + gone p e todo ≡ occurs x p.context.claims + counted (is_end_call x) todo + come_to p e todo
   goes-claims p e [] idle = taken-form p e.moved (idle refl).0 (idle refl).1
   goes-claims p e (Todo.show q rest ∷ todo) idle = show-form p e q rest todo (is_word_read e.act)
@@ -169,15 +224,22 @@ module _ (image : Image) (x : ℕ) where
       let k = goes-same image x p e (Todo.drop y) todo refl refl in omega arith
   goes-claims p e (Todo.park ∷ todo) idle = omega arith
   goes-claims p e (Todo.done ∷ todo) idle = omega arith
+  goes-claims p e (Todo.sleep ∷ todo) idle = omega arith
+  goes-claims p e (Todo.paid ∷ todo) idle = omega arith
   goes-claims p e (q ∷ todo) idle = short-form _ _ _ (goes-same image x p e q todo refl refl)
 
   with-cleaned : (p : Processor) (e : FineStep) (b : Bool) → call_claims x (with_cleaned image p e b) ≡ call_claims x p
   with-cleaned p e false = refl
   with-cleaned p e true = ap (λ n. occurs x p.context.claims + n) (cleaned-same (row_number e.site) p.todo)
 
+  acted-claims : (p : Processor) (act : FineAct) → call_claims x (with_actor image p act) ≡ call_claims x p
+  acted-claims p (FineAct.Shown event more) = refl
+  acted-claims p (FineAct.Unseen unseen) = refl
+
   -- The claims that a processor has still to end change with a step by what it takes and gives back.
-  pub processor-claims : (p : Processor) (e : FineStep) → ((p.todo ≡ []) → (p.context.claims ≡ []) × IsThread e.moved)
+  pub processor-claims : (p : Processor) (e : FineStep) → (p.todo ≡ [] → p.context.claims ≡ [])
       → call_claims x (p_next image p e) + gone p e p.todo ≡ call_claims x p + come_to p e p.todo
   processor-claims p e idle =
-      let h = goes-claims p e p.todo idle in
-      let k = with-cleaned (goes_on_by image p e p.todo) e (begins_cleaning e) in omega arith
+      let h = goes-claims p e p.todo (λ none. (idle none, none)) in
+      let k = with-cleaned (goes_on_by image p e p.todo) e (begins_cleaning e) in
+      let l = acted-claims (with_cleaned image (goes_on_by image p e p.todo) e (begins_cleaning e)) e.act in omega (arith, h, k, l)

@@ -1,6 +1,10 @@
 -- How many steps of cleanings are on a processor's list after a step of it: those behind that step, and those of a cleaning that it begins.
-use Rattle.um_refinement.proofs.Words.{◌≡◌, ℕ, ◌+◌, Bool, true, false, ◌∷◌, ◌++◌, Option, Some, None, refl, sym, ap, ◌∙◌, arith, [], ◌||◌, if◌then◌else◌, list_any, false≢true, true≢false, Image, thread_of_row, Pending, Steps, begins_cleaning, Context, goes_on_by, p_next, row_number, with_cleaned, Todo, Todos, cleaning, cleaning_of, emptying, end_of_turn, fine_steps, next_steps, with_cleaning, Processor, FineStep, AreBlocks, one_if, Behind, counted, is_recycle, is_vacate, is_wipe, names_row}
-use Rattle.um_refinement.proofs.ListGrowth.{EndsWell, ReadsLast, behind-kept, cleaning-kept, either-look, ends-behind, next-kept, quiet-kept, show-kept, take-kept, turn-kept, visits_row}
+use Rattle.um_refinement.proofs.Words.{◌≡◌, ℕ, ◌+◌, Bool, true, false, ◌∷◌, ◌++◌, Option, Some, None, refl, sym, behind_step, ap, ◌∙◌, arith, [], ◌||◌, if◌then◌else◌, list_any, false≢true, true≢false, Image, thread_of_row, Pending, Steps, begins_cleaning, Context, goes_on_by, p_next, row_number, with_cleaned, Todo, Todos, cleaning, cleaning_of, emptying, end_of_turn, fine_steps, next_steps, with_cleaning, Processor, FineStep, AreBlocks, one_if, Behind, counted, is_recycle, is_vacate, is_wipe, names_row}
+use Rattle.um_words.specs.declared.fine.Mark.{Mark}
+use Rattle.um_fine.specs.Follows.{shown_step}
+use Rattle.um_fine.specs.Places.{put_away}
+use Rattle.um_refinement.specs.Frames.{IsActOver, access_alone, access_settled, act_alone, act_settled}
+use Rattle.um_refinement.proofs.ListGrowth.{EndsWell, ReadsLast, acted-kept, behind-kept, cleaning-kept, ends-behind, forms-kept, is_errand, looks-kept, next-kept, quiet-kept, show-kept, take-kept, turn-kept, visits_row}
 
 -- the steps that clear a cell, vacate a row, or recycle an object
 abbrev pub empties : Todo → Bool
@@ -48,9 +52,46 @@ module _ (test : Todo → Bool) (of : IsOfEmptying test) where
     All c = Unit {0}
 
     fine-none : (c : Context) (q : Pending) (rest : Steps) → list_any empties (fine_steps image c q rest) ≡ false
-    fine-none c (Pending.Probe a amount) rest = either-look image (λ todo. list_any empties todo ≡ false) amount _ (λ x h. h) refl
-    fine-none c (Pending.CopyIn a amount) rest = either-look image (λ todo. list_any empties todo ≡ false) amount _ (λ x h. h) refl
-    fine-none c q rest = refl
+    fine-none = forms-kept image (λ todo. list_any empties todo ≡ false)
+        (record {
+          note = λ site todo h. h;
+          act = λ q rest. refl;
+          settles = λ q rest deadline mark. refl;
+          access = λ q rest. refl;
+          access_settles = λ q rest deadline mark. refl;
+          look = λ x todo h. h;
+          owe = λ q rest. refl;
+          leave = λ a rest. refl;
+          edit = λ d q rest. refl;
+          move = λ d who rest. refl;
+          start = λ who q rest c. refl;
+        })
+
+    errand : (n : ℕ) (q : Todo) (todo : Todos) → is_errand q ≡ true → Is n todo → Is n (q ∷ todo)
+    errand n (Todo.wake who told) todo on h = skips (Todo.wake who told) todo refl ∙ h
+    errand n (Todo.look who site before) todo on h = skips (Todo.look who site before) todo refl ∙ h
+    errand n (Todo.tell_cut who) todo on h = skips (Todo.tell_cut who) todo refl ∙ h
+    errand n (Todo.rouse who) todo on h = skips (Todo.rouse who) todo refl ∙ h
+    errand n q todo on h = absurd (false≢true on)
+
+    ended : (n : ℕ) (x : ℕ) (todo : Todos) → Is n todo → Is n (Todo.end_call x ∷ todo)
+    ended n x todo h = skips (Todo.end_call x) todo refl ∙ h
+
+    away-count : (doomed : Bool) → Count (put_away doomed) ≡ 0
+    away-count true = skips Todo.done [] refl
+    away-count false = skips Todo.sleep (Todo.reread_asleep ∷ Todo.done ∷ []) refl ∙ (skips Todo.reread_asleep (Todo.done ∷ []) refl ∙ skips Todo.done [] refl)
+
+    waited : (n site : ℕ) (todo : Todos) → IsActOver todo → Is n todo → Is n (todo ++ Todo.reread site ∷ [])
+    waited n site _ act_alone h = skips (Todo.reread site) [] refl ∙ h
+    waited n site _ (act_settled {deadline} {mark}) h =
+        skips (Todo.settle deadline mark) (Todo.reread site ∷ []) refl ∙ (skips (Todo.reread site) [] refl ∙ (sym (skips (Todo.settle deadline mark) [] refl) ∙ h))
+    waited n site _ access_alone h =
+        skips (Todo.read_done None) (Todo.let_go ∷ Todo.reread site ∷ []) refl ∙ (skips Todo.let_go (Todo.reread site ∷ []) refl ∙ (skips (Todo.reread site) [] refl
+        ∙ (sym (skips (Todo.read_done None) (Todo.let_go ∷ []) refl ∙ skips Todo.let_go [] refl) ∙ h)))
+    waited n site _ (access_settled {deadline} {mark}) h =
+        skips (Todo.read_done None) (Todo.let_go ∷ Todo.settle deadline mark ∷ Todo.reread site ∷ []) refl ∙ (skips Todo.let_go (Todo.settle deadline mark ∷ Todo.reread site ∷ []) refl
+        ∙ (skips (Todo.settle deadline mark) (Todo.reread site ∷ []) refl ∙ (skips (Todo.reread site) [] refl
+        ∙ (sym (skips (Todo.read_done None) (Todo.let_go ∷ Todo.settle deadline mark ∷ []) refl ∙ (skips Todo.let_go (Todo.settle deadline mark ∷ []) refl ∙ skips (Todo.settle deadline mark) [] refl)) ∙ h))))
 
     end-none : (b : Bool) → list_any empties (end_of_turn image b) ≡ false
     end-none true = refl
@@ -95,14 +136,17 @@ module _ (test : Todo → Bool) (of : IsOfEmptying test) where
         cleaning-kept image (λ old new. Count new ≡ Count (emptying x) + Count old) x (block-count x) (λ q old new c h. behind-one q (Count (emptying x)) new old h) todo
 
     pub goes-count : (p : Processor) (e : FineStep) (q : Todo) (todo : Todos) → Behind image q todo → ReadsLast e q todo → Count (goes_on_by image p e (q ∷ todo)).todo ≡ Count todo
-    goes-count p e q todo h last = by q (ends-behind image (Is (Count todo)) (λ k. skips Todo.done [] refl ∙ k) e q todo h last refl)
+    goes-count p e q todo h last = by q (ends-behind image (Is (Count todo)) (λ k doomed. away-count doomed ∙ k) (λ c z k. skips (Todo.add c) z refl ∙ k) e q todo h last refl) h
       where
-        by : (q : Todo) → EndsWell (Is (Count todo)) e q → Is (Count todo) (goes_on_by image p e (q ∷ todo)).todo
-        by (Todo.show q rest) ends =
-            show-kept image (Is (Count todo)) All (expands (Count todo)) p e q rest todo (Is (Count todo)) tt
-            (behind-kept image (Is (Count todo)) (λ who told z k. skips (Todo.wake who told) z refl ∙ k) (λ x z k. skips (Todo.end_call x) z refl ∙ k) p.context q e.moved) ends refl
-        by q ends =
-            quiet-kept image (Is (Count todo)) All (expands (Count todo)) p (put (Count todo)) (λ who x z few k. skips (Todo.clean_pair who x) z refl ∙ k) (λ z k. sym (skips Todo.region_load z refl) ∙ k)
+        by : (q : Todo) → EndsWell (Is (Count todo)) e q → Behind image q todo → Is (Count todo) (goes_on_by image p e (q ∷ todo)).todo
+        by (Todo.show q rest) ends over =
+            let n = Count todo in
+            show-kept image (Is n) All (expands n) p e q rest todo (Is n) tt (waited n) over
+            (λ z k. let made = shown_step image q e.act in looks-kept image (Is n) (errand n) (ended n) p.context made e (behind_step image p.context made e.moved z)
+            (behind-kept image (Is n) (errand n) (ended n) p.context made e.moved z k))
+            ends refl
+        by q ends over =
+            quiet-kept image (Is (Count todo)) All (expands (Count todo)) p (errand (Count todo)) (put (Count todo)) (λ who x z few k. skips (Todo.clean_pair who x) z refl ∙ k) (λ z k. sym (skips Todo.region_load z refl) ∙ k)
             (λ d z k. skips (Todo.read_done (Some d)) z refl ∙ k) e q todo refl tt ends refl
 
     -- what a cleaning adds
@@ -114,18 +158,24 @@ module _ (test : Todo → Bool) (of : IsOfEmptying test) where
     with-cleaned-count p e true = cleaned-count (row_number e.site) p.todo
     with-cleaned-count p e false = omega arith
 
+    acted-count : (p : Processor) (e : FineStep) → Count (p_next image p e).todo ≡ begun e (begins_cleaning e) + Count (goes_on_by image p e p.todo).todo
+    acted-count p e =
+        let q = with_cleaned image (goes_on_by image p e p.todo) e (begins_cleaning e) in
+        acted-kept image (λ todo. Count todo ≡ Count q.todo) q e.act refl ∙ with-cleaned-count (goes_on_by image p e p.todo) e (begins_cleaning e)
+
     pub next-counts : (p : Processor) (e : FineStep) (q : Todo) (todo : Todos) → p.todo ≡ q ∷ todo → Behind image q todo → ReadsLast e q todo
         → Count (p_next image p e).todo ≡ begun e (begins_cleaning e) + Count todo
     next-counts p e q todo at h last =
-        with-cleaned-count (goes_on_by image p e p.todo) e (begins_cleaning e)
+        acted-count p e
         ∙ ap (λ n. begun e (begins_cleaning e) + n) (ap (λ (z : Todos). Count (goes_on_by image p e z).todo) at ∙ goes-count p e q todo h last)
 
     pub takes-counts : (p : Processor) (e : FineStep) → p.todo ≡ [] → begins_cleaning e ≡ false → Count (p_next image p e).todo ≡ 0
     takes-counts p e at quiet =
-        let all = with-cleaned-count (goes_on_by image p e p.todo) e (begins_cleaning e) in
+        let all = acted-count p e in
         let none = ap (begun e) quiet in
         let turn = turn-kept image (Is 0) (skips (Todo.show Pending.Begin []) [] refl) (skips (Todo.show Pending.Exit []) [] refl) in
-        let rest = ap (λ (z : Todos). Count (goes_on_by image p e z).todo) at ∙ take-kept image (Is 0) All (expands 0) p turn e.moved tt refl (ap Count at) in
+        let hand = λ (deadline : ℕ) (mark : Mark). skips (Todo.handle deadline mark) (Todo.paid ∷ []) refl ∙ skips Todo.paid [] refl in
+        let rest = ap (λ (z : Todos). Count (goes_on_by image p e z).todo) at ∙ take-kept image (Is 0) All (expands 0) p turn hand e.moved tt refl (ap Count at) in
         omega (arith, all, none, rest)
 
 -- A processor that doesn't recycle an object has nothing left of its cleaning: it clears no cell, and vacates no row.

@@ -1,7 +1,9 @@
 -- On a processor's list stand the ends of two claims of a row at most, where its thread's call holds no more objects.
-use Rattle.um_refinement.proofs.Words.{◌≡◌, ℕ, suc, ◌+◌, ◌≤◌, Bool, true, false, List, [], ◌∷◌, length, Some, None, refl, ap, ◌∙◌, arith, ◌==◌, if◌then◌else◌, Image, own_row, Pending, Steps, instruction_at, row_named, act_in, is_word_read, outcome_in, begins_cleaning, Context, continues, resumed, after_show, after_take, behind_step, filled_up, goes_on_by, p_next, row_number, with_cleaned, Todo, Todos, Processor, Exchange, FineStep, counted, is_end_call, behind_shown, occurs}
-use Rattle.um_refinement.proofs.ListClaims.{cleaned-same, end_calls-count, filled-same, wakes-same, goes-same}
-use Rattle.um_refinement.proofs.ListGrowth.{turn-kept}
+use Rattle.um_refinement.proofs.Words.{◌≡◌, ℕ, suc, ◌+◌, ◌≤◌, Bool, true, false, List, [], ◌∷◌, length, Some, None, refl, ap, ◌∙◌, arith, ◌==◌, if◌then◌else◌, Image, own_row, Pending, Steps, instruction_at, row_named, act_in, is_word_read, outcome_in, begins_cleaning, Bool, Option, Context, is_empty, thread_in, turn, refilled_by, continues, resumed, after_show, after_take, behind_step, filled_up, goes_on_by, p_next, row_number, with_cleaned, Todo, Todos, Processor, Exchange, FineStep, counted, is_end_call, behind_shown, occurs}
+use Rattle.um_fine.specs.Follows.{shown_step, waits_behind}
+use Rattle.um_fine.specs.Places.{armed_for, put_away, settling}
+use Rattle.um_refinement.proofs.ListClaims.{cleaned-same, end_calls-count, filled-same, looks-same, waits-same, wakes-same, goes-same}
+use Rattle.um_refinement.proofs.ListGrowth.{acted-kept, turn-kept}
 
 pub occurs-few : (x : ℕ) (xs : List ℕ) → occurs x xs ≤ length xs
 occurs-few x [] = omega arith
@@ -11,6 +13,10 @@ occurs-few x (y ∷ ys) =
 module _ (image : Image) (x : ℕ) where
   abbrev Ends : Todos → ℕ
   Ends todo = counted (is_end_call x) todo
+
+  settling-none : (c : Context) (until : Option ℕ) (q : Pending) → Ends (settling image c until q) ≡ 0
+  settling-none c None q = refl
+  settling-none c (Some deadline) q = refl
 
   -- nothing behind a step that is shown ends a claim
   shown-none : (c : Context) (q : Pending) → Ends (behind_shown image c q) ≡ 0
@@ -22,11 +28,18 @@ module _ (image : Image) (x : ℕ) where
   shown-none c (Pending.CopyOut a) = refl
   shown-none c (Pending.CopyStr a) = refl
   shown-none c (Pending.Start who script stack priority mode) = refl
+  shown-none c (Pending.Work a ask) = settling-none c (armed_for image c (Pending.Work a ask)) (Pending.Work a ask)
+  shown-none c (Pending.Join who timeout) = settling-none c (armed_for image c (Pending.Join who timeout)) (Pending.Join who timeout)
+  shown-none c (Pending.FutexWait a value timeout) = settling-none c (armed_for image c (Pending.FutexWait a value timeout)) (Pending.FutexWait a value timeout)
   shown-none c q = refl
 
   behind-ends : (c : Context) (q : Pending) (moved : Exchange) (todo : Todos) → length c.claims ≤ 2 → Ends todo ≡ 0 → Ends (behind_step image c q moved todo) ≤ 2
   behind-ends c (Pending.Work a ask) moved todo few none = let same = wakes-same image x (outcome_in moved).woken todo in omega (arith, none, same)
   behind-ends c Pending.Exit moved todo few none =
+      let count = end_calls-count image x c.claims todo in
+      let most = occurs-few x c.claims in
+      omega (arith, few, none, count, most)
+  behind-ends c Pending.Killed moved todo few none =
       let count = end_calls-count image x c.claims todo in
       let most = occurs-few x c.claims in
       omega (arith, few, none, count, most)
@@ -49,16 +62,29 @@ module _ (image : Image) (x : ℕ) where
   behind-ends c q moved todo few none = omega (arith, none)
 
   take-ends : (p : Processor) (moved : Exchange) → Ends p.todo ≤ 2 → Ends (after_take image p moved).todo ≤ 2
-  take-ends p (Exchange.thread c None) h = turn-kept image (λ todo. Ends todo ≤ 2) (omega arith) (omega arith) (instruction_at image c.place)
+  take-ends p (Exchange.thread c None) h = by (is_empty c.pending)
+    where
+      by : (b : Bool) → Ends (if b then record p { context = c; todo = turn image c } else refilled_by image (record p { context = c }) []).todo ≤ 2
+      by true = turn-kept image (λ todo. Ends todo ≤ 2) (omega arith) (omega arith) (instruction_at image c.place)
+      by false = let same = filled-same image x c [] in omega (arith, same)
   take-ends p (Exchange.thread c (Some told)) h = let same = filled-same image x (resumed image c told) [] in omega (arith, same)
+  take-ends p (Exchange.mark deadline mark) h = omega arith
   take-ends p moved h = h
 
+  away-ends : (doomed : Bool) → Ends (put_away doomed) ≤ 2
+  away-ends true = omega arith
+  away-ends false = omega arith
+
   show-ends : (p : Processor) (e : FineStep) (q : Pending) (rest : Steps) (todo : Todos) (b : Bool) → length p.context.claims ≤ 2 → todo ≡ behind_shown image p.context q
-      → Ends (if b then record p { todo = Todo.done ∷ [] } else after_show image p e q rest todo).todo ≤ 2
-  show-ends p e q rest todo true few behind = omega arith
+      → Ends (if b then record p { todo = put_away (thread_in e.word).doomed } else after_show image p e (shown_step image q e.act) rest todo).todo ≤ 2
+  show-ends p e q rest todo true few behind = away-ends (thread_in e.word).doomed
   show-ends p e q rest todo false few behind =
-      let c = continues image p.context 0 q rest (act_in e.act) e.moved in
-      behind-ends p.context q e.moved (filled_up image c todo) few (filled-same image x c todo ∙ (ap Ends behind ∙ shown-none p.context q))
+      let made = shown_step image q e.act in
+      let c = continues image p.context 0 made rest (act_in e.act) e.moved in
+      let there = waits_behind image made e todo in
+      let left = filled_up image c there in
+      let most = behind-ends p.context made e.moved left few (filled-same image x c there ∙ (waits-same image x made e todo ∙ (ap Ends behind ∙ shown-none p.context q))) in
+      let same = looks-same image x p.context made e (behind_step image p.context made e.moved left) in omega (arith, most, same)
 
   -- what is known of a list whose first step is shown
   abbrev pub IsShown : Context → Todos → Type 0
@@ -75,6 +101,7 @@ module _ (image : Image) (x : ℕ) where
       by false k same = omega (arith, k, same)
   goes-ends p e (Todo.park ∷ todo) was s h = omega arith
   goes-ends p e (Todo.done ∷ todo) was s h = omega arith
+  goes-ends p e (Todo.paid ∷ todo) was s h = omega arith
   goes-ends p e (q ∷ todo) was s h = let same = goes-same image x p e q todo refl refl in omega (arith, same, h)
 
   cleaned-ends : (p : Processor) (e : FineStep) (b : Bool) → Ends p.todo ≤ 2 → Ends (with_cleaned image p e b).todo ≤ 2
@@ -82,4 +109,6 @@ module _ (image : Image) (x : ℕ) where
   cleaned-ends p e true h = let same = cleaned-same image x (row_number e.site) p.todo in omega (arith, same, h)
 
   pub next-ends : (p : Processor) (e : FineStep) → IsShown p.context p.todo → Ends p.todo ≤ 2 → Ends (p_next image p e).todo ≤ 2
-  next-ends p e s h = cleaned-ends (goes_on_by image p e p.todo) e (begins_cleaning e) (goes-ends p e p.todo h s h)
+  next-ends p e s h =
+      acted-kept image (λ todo. Ends todo ≤ 2) (with_cleaned image (goes_on_by image p e p.todo) e (begins_cleaning e)) e.act
+      (cleaned-ends (goes_on_by image p e p.todo) e (begins_cleaning e) (goes-ends p e p.todo h s h))

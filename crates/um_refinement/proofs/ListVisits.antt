@@ -1,9 +1,12 @@
 -- How far a processor has visited the permissions of a thread whose object it cleans, after a step: only its visits change that, and a
 -- cleaning of the object that begins.
-use Rattle.um_refinement.proofs.Words.{◌≡◌, ℕ, ◌+◌, ◌≤◌, Bool, true, false, [], ◌∷◌, ◌++◌, Option, Some, None, refl, sym, ap, ◌∙◌, arith, eq-eqb, ◌==◌, if◌then◌else◌, nat_lt, list_all, and_parts, eqb-true, ltb-true, true≢false, false≢true, Image, ROWS, own_row, thread_of_row, Pending, Steps, is_visit, Context, dropped_at, goes_on_by, Todo, Todos, cleaning, cleaning_of, end_of_turn, fine_steps, next_steps, with_cleaning, is_cleaning_todo, Processor, FineStep, AreBlocks, Behind, cleaned_pairs, counted, is_recycle, names_row}
+use Rattle.um_refinement.proofs.Words.{◌≡◌, ℕ, ◌+◌, ◌≤◌, Bool, true, false, [], ◌∷◌, ◌++◌, Option, Some, None, refl, sym, ap, ◌∙◌, arith, eq-eqb, ◌==◌, if◌then◌else◌, nat_lt, list_all, and_parts, eqb-true, ltb-true, true≢false, false≢true, Image, ROWS, own_row, thread_of_row, Pending, Steps, is_visit, Context, dropped_at, goes_on_by, Todo, Todos, cleaning, cleaning_of, end_of_turn, fine_steps, next_steps, with_cleaning, is_cleaning_todo, Processor, FineStep, AreBlocks, Behind, cleaned_pairs, counted, is_recycle, names_row, behind_step}
+use Rattle.um_fine.specs.Follows.{shown_step}
+use Rattle.um_fine.specs.Places.{put_away}
+use Rattle.um_refinement.specs.Frames.{IsActOver, access_alone, access_settled, act_alone, act_settled}
 use Rattle.um_refinement.proofs.CleanSteps.{OwnRows}
 use Rattle.um_refinement.proofs.ListCounts.{count-cons}
-use Rattle.um_refinement.proofs.ListGrowth.{ends-behind, ReadsLast, either-look, is_clean_pair, next-kept, visits_row, EndsWell, cleaning-kept, show-kept, behind-kept, claim-kept, pass-kept, drop-kept, goes-kept}
+use Rattle.um_refinement.proofs.ListGrowth.{ends-behind, ReadsLast, forms-kept, is_clean_pair, is_errand, looks-kept, next-kept, visits_row, EndsWell, cleaning-kept, show-kept, behind-kept, claim-kept, pass-kept, drop-kept, goes-kept}
 
 -- the steps named are rows, so a visit is of one
 pub cleaned-bounded : (who : ℕ) (todo : Todos) → list_all names_row todo ≡ true → cleaned_pairs who todo ≤ ROWS
@@ -33,9 +36,34 @@ module _ (image : Image) (who : ℕ) where
   All c = Unit {0}
 
   fine-visits : (c : Context) (q : Pending) (rest : Steps) → At (fine_steps image c q rest) ≡ ROWS
-  fine-visits c (Pending.Probe a amount) rest = either-look image (Is ROWS) amount _ (λ x h. h) refl
-  fine-visits c (Pending.CopyIn a amount) rest = either-look image (Is ROWS) amount _ (λ x h. h) refl
-  fine-visits c q rest = refl
+  fine-visits = forms-kept image (Is ROWS)
+      (record {
+        note = λ site todo h. h;
+        act = λ q rest. refl;
+        settles = λ q rest deadline mark. refl;
+        access = λ q rest. refl;
+        access_settles = λ q rest deadline mark. refl;
+        look = λ x todo h. h;
+        owe = λ q rest. refl;
+        leave = λ a rest. refl;
+        edit = λ d q rest. refl;
+        move = λ d who rest. refl;
+        start = λ who q rest c. refl;
+      })
+
+  errand : (n : ℕ) (q : Todo) (todo : Todos) → is_errand q ≡ true → Is n todo → Is n (q ∷ todo)
+  errand n (Todo.clean_pair u x) todo on h = absurd (false≢true on)
+  errand n q todo on h = h
+
+  away-visits : (doomed : Bool) → At (put_away doomed) ≡ ROWS
+  away-visits true = refl
+  away-visits false = refl
+
+  waited : (n site : ℕ) (todo : Todos) → IsActOver todo → Is n todo → Is n (todo ++ Todo.reread site ∷ [])
+  waited n site _ act_alone h = h
+  waited n site _ act_settled h = h
+  waited n site _ access_alone h = h
+  waited n site _ access_settled h = h
 
   put : (q : Todo) (todo : Todos) → visits_row q ≡ true → names_row q ≡ true → Is ROWS todo → Is ROWS (q ∷ todo)
   put (Todo.clean_pair u x) todo visit few h = absurd (false≢true visit)
@@ -49,16 +77,20 @@ module _ (image : Image) (who : ℕ) where
 
   -- any other step leaves it
   pub goes-visits : (p : Processor) (e : FineStep) (q : Todo) (todo : Todos) → is_clean_pair q ≡ false → Behind image q todo → ReadsLast e q todo → At (goes_on_by image p e (q ∷ todo)).todo ≡ At todo
-  goes-visits p e q todo free h last = by q free (ends-behind image (Is (At todo)) (λ k. k) e q todo h last refl)
+  goes-visits p e q todo free h last = by q free (ends-behind image (Is (At todo)) (λ k doomed. away-visits doomed ∙ k) (λ c z k. k) e q todo h last refl) h
     where
-      by : (q : Todo) → is_clean_pair q ≡ false → EndsWell (Is (At todo)) e q → Is (At todo) (goes_on_by image p e (q ∷ todo)).todo
-      by (Todo.show q rest) free ends =
-          show-kept image (Is (At todo)) All (expands (At todo)) p e q rest todo (Is (At todo)) tt (behind-kept image (Is (At todo)) (λ u told z k. k) (λ x z k. k) p.context q e.moved) ends refl
-      by (Todo.read_claim d) free ends = claim-kept image (Is (At todo)) (λ z k. k) p e d todo (λ x at. refl) refl
-      by (Todo.clean_pair u x) free ends = absurd (true≢false free)
-      by (Todo.pass u x) free ends = pass-kept image (Is (At todo)) All (expands (At todo)) p u x todo (λ y few k. k) tt refl
-      by (Todo.drop x) free ends = drop-kept image (Is (At todo)) All (expands (At todo)) p (dropped_at image p.context x (is_visit e.act)) x todo (λ y few k. k) tt refl
-      by q free ends = goes-kept image (Is (At todo)) All (expands (At todo)) p e q todo refl tt ends refl
+      by : (q : Todo) → is_clean_pair q ≡ false → EndsWell (Is (At todo)) e q → Behind image q todo → Is (At todo) (goes_on_by image p e (q ∷ todo)).todo
+      by (Todo.show q rest) free ends over =
+          let n = At todo in
+          show-kept image (Is n) All (expands n) p e q rest todo (Is n) tt (waited n) over
+          (λ z k. let made = shown_step image q e.act in looks-kept image (Is n) (errand n) (λ x y g. g) p.context made e (behind_step image p.context made e.moved z)
+          (behind-kept image (Is n) (errand n) (λ x y g. g) p.context made e.moved z k))
+          ends refl
+      by (Todo.read_claim d) free ends over = claim-kept image (Is (At todo)) (λ z k. k) p e d todo (λ x at. refl) refl
+      by (Todo.clean_pair u x) free ends over = absurd (true≢false free)
+      by (Todo.pass u x) free ends over = pass-kept image (Is (At todo)) All (expands (At todo)) p u x todo (λ y few k. k) tt refl
+      by (Todo.drop x) free ends over = drop-kept image (Is (At todo)) All (expands (At todo)) p (dropped_at image p.context x (is_visit e.act)) x todo (λ y few k. k) tt refl
+      by q free ends over = goes-kept image (Is (At todo)) All (expands (At todo)) p (errand (At todo)) e q todo refl tt ends refl
 
   -- The cleaning of another object begins.
   pub cleaned-apart : (x : ℕ) → (thread_of_row image x ≡ Some who → ⊥) → (todo : Todos) → At (with_cleaning (cleaning image x) todo) ≡ At todo

@@ -1,8 +1,9 @@
 -- A processor's access to memory is that step of the machine, where the relation holds: its region table has the regions of its thread.
-use Rattle.um_refinement.proofs.Words.{◌≡◌, ℕ, zero, suc, ◌+◌, ◌<◌, ◌≤◌, Bool, true, false, [], ◌∷◌, length, None, refl, sym, ap, ◌∙◌, subst, arith, ◌⊎◌, inl, inr, eq-eqb, eq-or-lt_of_le, ◌==◌, ◌&&◌, ◌||◌, not, IsTrue, if◌then◌else◌, list_any, eqb-false, eqb-true, false≢true, Act, Image, Access, Addr, Mode, Pending, Thread, allowed, bytes_at, Steps, to_thread, State, is_user, thread_at, FineAct, More, act_in, FineStep, Site, read, Cell, SiteState, is_sort, site_answers, Todo, Todos, allows, Fine, bytes, bytes_state, domain, one_if, total, has_claimed, has_held, is_let_go, is_hold, is_own_claim, is_own_done, is_region_load, moves_to, reads, regions, le_value, partitions_of, regions_of, value_in, has_loaded}
+use Rattle.um_refinement.proofs.Words.{access_over, ◌≡◌, ℕ, zero, suc, ◌+◌, ◌<◌, ◌≤◌, Bool, true, false, ◌∷◌, length, refl, sym, ap, ◌∙◌, subst, arith, ◌⊎◌, inl, inr, eq-eqb, eq-or-lt_of_le, ◌==◌, ◌&&◌, ◌||◌, not, IsTrue, if◌then◌else◌, list_any, eqb-false, eqb-true, false≢true, Act, Image, Access, Addr, Mode, Pending, Thread, allowed, bytes_at, Steps, to_thread, State, is_user, thread_at, FineAct, More, act_in, FineStep, Site, read, Cell, SiteState, is_sort, site_answers, Todo, Todos, allows, Fine, bytes, bytes_state, domain, one_if, total, has_claimed, has_held, is_let_go, is_hold, is_own_claim, is_own_done, is_region_load, moves_to, reads, regions, le_value, partitions_of, regions_of, value_in, has_loaded}
 use Rattle.um_machine.specs.declared.pending.Amount.TheVariants as Amount
 use Rattle.um_fine.specs.Processor.{loaded, mode_of}
-use Rattle.um_refinement.proofs.Offered.{IsStep, Shows, act-is, behind-is, machine-step, own-part, says-at, site-is}
+use Rattle.um_refinement.specs.Frames.{IsWaitOver, both, nothing, rereads, settled}
+use Rattle.um_refinement.proofs.Offered.{IsStep, Shows, act-is, behind-is, NotKilled, at-made, machine-step, own-part, own-same, says-at, site-is}
 use Rattle.um_refinement.proofs.Says.{allowed-agrees, read-agrees}
 
 lt-else : (k n : ℕ) → k < n + 1 → (k ≡ n → ⊥) → k < n
@@ -26,18 +27,27 @@ mode-back Mode.User = refl
 mode-back Mode.Supervisor = refl
 
 module _ {f : Fine} {m : State} {k : ℕ} {e : FineStep} {q : Pending} {rest : Steps} {todo : Todos} (h : Shows f m k e q rest todo)
-    (behind : todo ≡ Todo.read_done None ∷ Todo.let_go ∷ []) where
-  list-is : (f.processors k).todo ≡ Todo.show q rest ∷ Todo.read_done None ∷ Todo.let_go ∷ []
-  list-is = h.at ∙ ap (λ (l : Todos). Todo.show q rest ∷ l) behind
+    (other : NotKilled q) {over : Todos} (waits : IsWaitOver over) (behind : todo ≡ access_over over) where
+  list-is : (f.processors k).todo ≡ Todo.show q rest ∷ access_over over
+  list-is = at-made h other ∙ ap (λ (l : Todos). Todo.show q rest ∷ l) behind
+
+  -- the end of a wait has none of these steps
+  over-none : {l : Todos} → IsWaitOver l → (list_any is_hold l ≡ false) × (list_any is_own_claim l ≡ false) × (list_any is_region_load l ≡ false)
+  over-none nothing = (refl, refl, refl)
+  over-none settled = (refl, refl, refl)
+  over-none rereads = (refl, refl, refl)
+  over-none both = (refl, refl, refl)
 
   held : has_held (f.processors k) ≡ true
-  held = ap (λ (l : Todos). list_any is_let_go l && not (list_any is_hold l)) list-is
+  held = ap (λ (l : Todos). list_any is_let_go l && not (list_any is_hold l)) list-is ∙ ap not (over-none waits).0
 
   claimed : has_claimed (f.processors k) ≡ true
-  claimed = ap (λ (l : Todos). list_any is_own_done l && not (list_any is_own_claim l)) list-is
+  claimed = ap (λ (l : Todos). list_any is_own_done l && not (list_any is_own_claim l)) list-is ∙ ap not (over-none waits).1
 
   table-loaded : has_loaded (f.processors k) ≡ true
-  table-loaded = ap (λ (l : Todos). (list_any is_own_done l && not (list_any is_own_claim l)) && not (list_any is_region_load l)) list-is
+  table-loaded =
+      ap (λ (l : Todos). (list_any is_own_done l && not (list_any is_own_claim l)) && not (list_any is_region_load l)) list-is
+      ∙ (λ i. not ((over-none waits).1 i) && not ((over-none waits).2 i))
 
   -- nobody writes the domain, since this processor reads it
   reads-it : reads (f.processors k).domain (f.processors k) ≡ true
@@ -76,8 +86,8 @@ module _ {f : Fine} {m : State} {k : ℕ} {e : FineStep} {q : Pending} {rest : S
       let unwritten-there = ap (λ d. (domain f d).writer) there ∙ unwritten few in
       let parts = is.right table found.1 version unwritten-there in
       let domains = there ∙ ((h.rel.processors k h.there).domain.kept held ∙ (h.rel.threads t of.index).word.domain) in
-      let mode : mode_of table.key.user ≡ (thread_at m t).mode = ap (λ z. mode_of z.user) key ∙ (mode-back p.context.mode ∙ ap (λ (z : Thread). z.mode) of.own) in
-      let stack : table.key.stack ≡ (thread_at m t).stack.0 = ap (λ z. z.stack) key ∙ ap (λ (z : Thread). z.stack.0) of.own in
+      let mode : mode_of table.key.user ≡ (thread_at m t).mode = ap (λ z. mode_of z.user) key ∙ (mode-back p.context.mode ∙ ap (λ (z : Thread). z.mode) (own-same h)) in
+      let stack : table.key.stack ≡ (thread_at m t).stack.0 = ap (λ z. z.stack) key ∙ ap (λ (z : Thread). z.stack.0) (own-same h) in
       ap (loaded f.image) found.1
       ∙ λ i. regions (sym h.rel.image i) (mode i) (stack i) ((parts ∙ ap (partitions_of m) domains) i)
 
@@ -104,27 +114,27 @@ module _ {f : Fine} {m : State} {k : ℕ} {e : FineStep} {rest : Steps} {todo : 
       → IsStep f m k e 0 (Pending.Store a n value)
   store-step a n value h =
       machine-step h 0 (act-is h) tt
-      (ap (λ b. if b then Act.Store a n value else Act.Fault Access.Write a n) (allows-it h (behind-is h) few Access.Write a.0 n))
+      (ap (λ b. if b then Act.Store a n value else Act.Fault Access.Write a n) (allows-it h tt nothing (behind-is h) few Access.Write a.0 n))
 
   pub fetch-step : (a : Addr) → Shows f m k e (Pending.Fetch a) rest todo → IsStep f m k e 0 (Pending.Fetch a)
   fetch-step a h =
       machine-step h 0 (act-is h) tt
-      (ap (λ b. if b then Act.Fetch a else Act.Fault Access.Exec a 4) (allows-it h (behind-is h) few Access.Exec a.0 4))
+      (ap (λ b. if b then Act.Fetch a else Act.Fault Access.Exec a 4) (allows-it h tt nothing (behind-is h) few Access.Exec a.0 4))
 
   pub probe-step : (a : Addr) (n : ℕ) → Shows f m k e (Pending.Probe a (Amount.Bytes n)) rest todo
       → IsStep f m k e 0 (Pending.Probe a (Amount.Bytes n))
-  probe-step a n h = machine-step h 0 (act-is h) tt (ap (Act.Probe a n) (allows-it h (behind-is h) few Access.Write a.0 n))
+  probe-step a n h = machine-step h 0 (act-is h) tt (ap (Act.Probe a n) (allows-it h tt nothing (behind-is h) few Access.Write a.0 n))
 
   pub copy-in-step : (a : Addr) (n : ℕ) → Shows f m k e (Pending.CopyIn a (Amount.Bytes n)) rest todo
       → IsStep f m k e 0 (Pending.CopyIn a (Amount.Bytes n))
-  copy-in-step a n h = machine-step h 0 (act-is h) tt (ap (Act.CopyIn a n) (allows-it h (behind-is h) few Access.Read a.0 n))
+  copy-in-step a n h = machine-step h 0 (act-is h) tt (ap (Act.CopyIn a n) (allows-it h tt nothing (behind-is h) few Access.Read a.0 n))
 
   pub copy-out-step : (a : Addr) → Shows f m k e (Pending.CopyOut a) rest todo → IsStep f m k e 0 (Pending.CopyOut a)
   copy-out-step a h =
       let c = (f.processors k).context in
-      let own = (own-part h).own in
+      let own = own-same h in
       machine-step h 0 (act-is h) tt
-      (ap (Act.CopyOut a (length c.buffer)) (allows-it h (behind-is h) few Access.Write a.0 (length c.buffer))
+      (ap (Act.CopyOut a (length c.buffer)) (allows-it h tt nothing (behind-is h) few Access.Write a.0 (length c.buffer))
       ∙ ap (λ (z : Thread). Act.CopyOut a (length z.buffer) (allowed m c.thread Access.Write a.0 (length z.buffer))) own)
 
   -- a load that is allowed reads what the machine's memory has
@@ -143,7 +153,7 @@ module _ {f : Fine} {m : State} {k : ℕ} {e : FineStep} {rest : Steps} {todo : 
   load-step to a n h = machine-step h 0 (act-is h) tt (by (allows f.image (f.processors k) Access.Read a.0 n) refl)
     where
       same : allows f.image (f.processors k) Access.Read a.0 n ≡ allowed m (f.processors k).context.thread Access.Read a.0 n
-      same = allows-it h (behind-is h) few Access.Read a.0 n
+      same = allows-it h tt nothing (behind-is h) few Access.Read a.0 n
 
       by : (b : Bool) → allows f.image (f.processors k) Access.Read a.0 n ≡ b
           → load_said a n (allows f.image (f.processors k) Access.Read a.0 n) (value_in (act_in e.act))

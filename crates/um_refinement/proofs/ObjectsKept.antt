@@ -1,16 +1,26 @@
 -- What a step of the access-matrix machine leaves of objects: kind and cost but at a reservation and a recycling, and the status but there,
 -- at births and where a drop takes the last permission.
-use Rattle.um_refinement.proofs.Words.{arith, length, replicate, ◌≡◌, inl, inr, ℕ, zero, suc, ◌<◌, ◌≤◌, Bool, true, false, List, [], ◌∷◌, Some, refl, sym, ap, ◌∙◌, subst, if◌then◌else◌, slice_index_or, slice_set, false≢true, Leftover, ROWS, STATIC_ROWS, THREADS, Addr, addr_of, row_at, Object, Status, Pending, Steps, Offers, goes, skips_drops, skips_inherit, State, object_at, pair_at, thread_at, vacant, bytes-leave, call_is, status_is, IsRow, behind_birth, Guarded, below_rows, bearing, not, tends}
+use Rattle.um_refinement.proofs.Words.{Waiter, arith, length, replicate, ◌≡◌, inl, inr, ℕ, zero, suc, ◌<◌, ◌≤◌, Bool, true, false, List, [], ◌∷◌, Some, refl, sym, ap, ◌∙◌, subst, if◌then◌else◌, slice_index_or, slice_set, false≢true, Leftover, ROWS, STATIC_ROWS, THREADS, Addr, addr_of, row_at, Object, Status, Pending, Steps, Offers, goes, skips_drops, skips_inherit, State, object_at, pair_at, thread_at, vacant, bytes-leave, call_is, status_is, IsRow, behind_birth, Guarded, below_rows, bearing, not, tends}
 use Rattle.um_machine.specs.Objects as Plain
+use Rattle.um_machine.specs.State.{with_waiters}
 use Rattle.um_machine.specs.Table as T
 use Rattle.um_refinement.proofs.Reachable.{IsSound}
 use Rattle.um_refinement.proofs.ThreadLists.{read-set}
-use Rattle.um_refinement.proofs.Writes.{Keeping, Makes, Part, Yes, after-kept, births, lasting_of, objects, statuses, with_dropped, with_left}
+use Rattle.um_refinement.proofs.Writes.{Keeping, Makes, Part, Yes, after-kept, births, is_queue, lasting_of, objects, statuses, with_dropped, with_left}
 
 -- an object that is written with the same of something leaves that of all
 pub set-kept : {A : Type 0} (g : Object → A) (xs : List Object) (x y : ℕ) (o : Object) → g o ≡ g (slice_index_or xs x vacant)
     → g (slice_index_or (slice_set xs x o) y vacant) ≡ g (slice_index_or xs y vacant)
 set-kept g = read-set g vacant
+
+-- who waits in a cell leaves what else is read of objects
+pub waiters-kept : {A : Type 0} (g : Object → A) → ((o : Object) (ws : List Waiter) → g (record o { waiters = ws }) ≡ g o) → (s : State) (c y : ℕ) (ws : List Waiter)
+    → g (object_at (with_waiters s c ws) y) ≡ g (object_at s y)
+waiters-kept g same s c y ws =
+    elim (is_queue c) as (λ b. g (slice_index_or (if b then s.objects else slice_set s.objects c (record (object_at s c) { waiters = ws })) y vacant) ≡ g (object_at s y)) [
+      | true ↦ refl
+      | false ↦ set-kept g s.objects c y _ (same (object_at s c) ws)
+    ]
 
 -- all that a step may write but whole objects, and but these and their status
 abbrev pub NoBirths : Part → Bool
@@ -37,6 +47,8 @@ object-reads may g y v edits becomes none =
       bytes = λ may s a bs k. bytes-leave (λ (z : State). g (object_at z y)) (λ z bytes. refl) (λ z bytes. refl) s a bs ∙ k;
       pool = λ may s left k. k;
       parts = λ may s d ps k. k;
+      queue = λ may s joins futexes k. k;
+      clock = λ may s now armed k. k;
     }
 
 module _ (m : State) (y : ℕ) where

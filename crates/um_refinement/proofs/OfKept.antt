@@ -1,6 +1,8 @@
 -- The own part of a thread that makes an event is that of the machine's thread then, with what its call holds and whether it has ended.
-use Rattle.um_refinement.proofs.Words.{◌≡◌, ℕ, zero, suc, ◌<◌, Bool, true, List, [], ◌∷◌, ◌++◌, length, Option, Some, None, refl, sym, ap, ◌∙◌, subst, arith, IsTrue, nat_lt, slice_set, list_all, and_from, and_parts, Answer, Ask, ROWS, THREADS, Addr, Errno, Pending, Life, Thread, verdict, Steps, State, is_started, no_rows, thread_at, with_thread, row_named, act_in, verdict_in, Context, continues, Todos, FineStep, Fine, IsOf, flags_of, is_ended, own_part, Ignores, held, next_of, key-same, held_part, all_other, keys-after, work_change, changed-same}
+use Rattle.um_refinement.proofs.Words.{as_thread, ◌≡◌, ℕ, zero, suc, ◌<◌, Bool, true, List, [], ◌∷◌, ◌++◌, length, Option, Some, None, refl, sym, ap, ◌∙◌, subst, arith, IsTrue, nat_lt, slice_set, list_all, and_from, and_parts, Ask, ROWS, THREADS, Addr, Errno, Pending, Life, Thread, verdict, Steps, State, is_started, thread_at, with_thread, row_named, act_in, verdict_in, Context, continues, Todos, FineStep, Fine, IsOf, flags_of, is_ended, own_part, Ignores, held, next_of, key-same, held_part, all_other, keys-after, work_change, changed-same}
 use Rattle.um_machine.specs.Table as T
+use Rattle.um_fine.specs.Answers.{answer_in}
+use Rattle.um_refinement.specs.Threads.{as_cut, cutters}
 use Rattle.um_refinement.proofs.Erased.{around}
 use Rattle.um_refinement.proofs.LawfulSteps.{Suits}
 use Rattle.um_refinement.proofs.Leaves.{Lawful}
@@ -48,11 +50,18 @@ work-calls : (m : State) (t x : ℕ) (a : Addr) (ask : Ask) (rest : Steps) (u : 
 work-calls m t x a ask rest u =
     let q = Pending.Work a ask in
     let w = T.work_of m t a ask in
-    let ignores : Ignores call_of all_other = record { due = λ h me due. refl; told = λ h me told. refl; domain = λ h me domain. refl; doomed = λ h me. refl } in
-    key-same call_of m (T.after m t x q rest) (keys-after call_of all_other ignores m t x q rest refl (λ s me. changed-same call_of (λ me registers reply buffer. refl) (work_change w.answer w.taken) me)) u
+    let ignores : Ignores call_of all_other = record { due = λ h me due. refl; told = λ h me told. refl; domain = λ h me domain. refl; doomed = λ h me. refl; flagged = λ h me flag suspended. refl } in
+    key-same call_of m (T.after m t x q rest) (keys-after call_of all_other ignores m t x q rest refl (λ s me. changed-same call_of (λ me registers reply buffer until. refl) (work_change w.answer w.taken) me)) u
+
+-- nor does a wake on a futex
+wake-calls : (m : State) (t x : ℕ) (a : Addr) (every : Bool) (rest : Steps) (u : ℕ) → call_of (thread_at (T.after m t x (Pending.FutexWake a every) rest) u) ≡ call_of (thread_at m u)
+wake-calls m t x a every rest u =
+    let q = Pending.FutexWake a every in
+    let ignores : Ignores call_of all_other = record { due = λ h me due. refl; told = λ h me told. refl; domain = λ h me domain. refl; doomed = λ h me. refl; flagged = λ h me flag suspended. refl } in
+    key-same call_of m (T.after m t x q rest) (keys-after call_of all_other ignores m t x q rest refl (λ s me. changed-same call_of (λ me registers reply buffer until. refl) (work_change (answer_in (T.act_of m t x q)) []) me)) u
 
 module _ (f : Fine) (m : State) (e : FineStep) (law : Lawful f m e) (suits : Suits f m) (all : InDomains f m) (rest : Steps) (todo : Todos) (x : ℕ) where
-  open around f e use {processor as p}
+  open around f e use {later, processor as p}
 
   abbrev t : ℕ
   t = p.context.thread
@@ -63,20 +72,21 @@ module _ (f : Fine) (m : State) (e : FineStep) (law : Lawful f m e) (suits : Sui
   abbrev after : Pending → State
   after q = T.after m t x q rest
 
-  module _ (q : Pending) (h : Shows f m e.cpu e q rest todo) (shown : IsShown q) (is : IsStep f m e.cpu e x q) where
-    of : IsOf m p.context
+  module _ (q : Pending) (h : Shows f m e.cpu e q rest todo) (shown : IsShown q) (is : IsStep f m e.cpu e x q) (uncut : cutters later t ≡ 0) where
+    of : IsOf f m p.context
     of = own-part h
 
     room : t < length m.threads
     room = let index = of.index in let many = law.sound.wide.threads in omega (arith, index, many)
 
     build : (thread_at (after q) t).checked ≡ flags_of (next q).claims → (next q).ended ≡ is_ended (thread_at (after q) t).life → IsTrue (is_started (thread_at (after q) t).life)
-        → Below (next q).claims → IsOf (after q) (next q)
+        → Below (next q).claims → IsOf later (after q) (next q)
     build claims ended started below =
         let same = continues-thread f.image p.context 0 q rest (act_in e.act) e.moved in
         record {
           index = subst (λ n. n < THREADS) (sym same) of.index;
-          own = own-kept f m e law suits all rest todo x q h shown is ∙ ap (λ n. own_part (thread_at (after q) n)) (sym same);
+          own = ap (λ n. as_thread (as_cut n (next q))) (ap (cutters later) same ∙ uncut) ∙ own-kept f m e law suits all rest todo x q h shown is ∙ ap (λ n. own_part (thread_at (after q) n)) (sym same);
+          waiting = λ some. let none = ap (cutters later) same ∙ uncut in absurd (omega (arith, some, none));
           claims = ap (λ n. (thread_at (after q) n).checked) same ∙ claims;
           ended = ended ∙ ap (λ n. is_ended (thread_at (after q) n).life) (sym same);
           started = subst (λ n. IsTrue (is_started (thread_at (after q) n).life)) (sym same) started;
@@ -84,38 +94,39 @@ module _ (f : Fine) (m : State) (e : FineStep) (law : Lawful f m e) (suits : Sui
         }
 
     -- it lives and holds as before
-    kept : call_of (thread_at (after q) t) ≡ call_of (thread_at m t) → held_of (next q) ≡ held_of p.context → IsOf (after q) (next q)
+    kept : call_of (thread_at (after q) t) ≡ call_of (thread_at m t) → held_of (next q) ≡ held_of p.context → IsOf later (after q) (next q)
     kept call held =
         build (ap (λ (z : Call). z.1) call ∙ (of.claims ∙ ap (λ (z : Held). flags_of z.1) (sym held)))
         (ap (λ (z : Held). z.2) held ∙ (of.ended ∙ ap (λ (z : Call). is_ended z.0) (sym call)))
         (subst (λ (z : Call). IsTrue (is_started z.0)) (sym call) of.started) (subst (λ (z : Held). Below z.1) (sym held) of.below)
 
-    beside : KeepsBeside q → KeepsHeld q → IsOf (after q) (next q)
+    beside : KeepsBeside q → KeepsHeld q → IsOf later (after q) (next q)
     beside h k =
         kept (ap (λ z. (z.life, z.checked)) (beside-same m t (after q) (beside-kept m t x q rest h) t)) (continues-held f.image p.context 0 q rest (act_in e.act) e.moved k)
 
   -- the own part is that of the machine's thread after the event
-  pub of-kept : (q : Pending) → Shows f m e.cpu e q rest todo → IsShown q → IsStep f m e.cpu e x q → IsOf (after q) (next q)
-  of-kept Pending.Exit h shown is =
-      let now = at-here m.threads t _ (room Pending.Exit h shown is) in
-      build Pending.Exit h shown is (ap (λ (z : Thread). z.checked) now) (ap (λ (z : Thread). is_ended z.life) (sym now)) (subst (λ (z : Thread). IsTrue (is_started z.life)) (sym now) refl) refl
-  of-kept (Pending.Fatal reason cause) h shown is =
+  pub of-kept : (q : Pending) → Shows f m e.cpu e q rest todo → IsShown q → IsStep f m e.cpu e x q → cutters later t ≡ 0 → IsOf later (after q) (next q)
+  of-kept Pending.Exit h shown is uncut =
+      let now = at-here m.threads t _ (room Pending.Exit h shown is uncut) in
+      build Pending.Exit h shown is uncut (ap (λ (z : Thread). z.checked) now) (ap (λ (z : Thread). is_ended z.life) (sym now)) (subst (λ (z : Thread). IsTrue (is_started z.life)) (sym now) refl) refl
+  of-kept Pending.Killed h shown is uncut =
+      let now = at-here m.threads t _ (room Pending.Killed h shown is uncut) in
+      build Pending.Killed h shown is uncut (ap (λ (z : Thread). z.checked) now) (ap (λ (z : Thread). is_ended z.life) (sym now)) (subst (λ (z : Thread). IsTrue (is_started z.life)) (sym now) refl) refl
+  of-kept (Pending.Fatal reason cause) h shown is uncut =
       let q = Pending.Fatal reason cause in
-      let now = at-here m.threads t _ (room q h shown is) in
-      build q h shown is (ap (λ (z : Thread). z.checked) now) (ap (λ (z : Thread). is_ended z.life) (sym now)) (subst (λ (z : Thread). IsTrue (is_started z.life)) (sym now) refl) refl
-  of-kept (Pending.Answer reply to) h shown is =
+      let now = at-here m.threads t _ (room q h shown is uncut) in
+      build q h shown is uncut (ap (λ (z : Thread). z.checked) now) (ap (λ (z : Thread). is_ended z.life) (sym now)) (subst (λ (z : Thread). IsTrue (is_started z.life)) (sym now) refl) refl
+  of-kept (Pending.Answer reply to) h shown is uncut =
       let q = Pending.Answer reply to in
-      let me = thread_at m t in
-      let th = T.at_steps m.image (record me { checked = no_rows; registers = T.with_answer me.registers to (T.reply_of me reply) }) rest in
-      let now = at-here m.threads t th (room q h shown is) in
+      let now = went-here rest m t (next_of m t x q) (room q h shown is uncut) in
       let was = own-part h in
-      build q h shown is (ap (λ (z : Thread). z.checked) now) (was.ended ∙ ap (λ (z : Thread). is_ended z.life) (sym now)) (subst (λ (z : Thread). IsTrue (is_started z.life)) (sym now) was.started) refl
-  of-kept (Pending.Check a kind want refusal) h shown is =
+      build q h shown is uncut (ap (λ (z : Thread). z.checked) now) (was.ended ∙ ap (λ (z : Thread). is_ended z.life) (sym now)) (subst (λ (z : Thread). IsTrue (is_started z.life)) (sym now) was.started) refl
+  of-kept (Pending.Check a kind want refusal) h shown is uncut =
       let q = Pending.Check a kind want refusal in
-      let now = went-here rest m t (next_of m t x q) (room q h shown is) in
+      let now = went-here rest m t (next_of m t x q) (room q h shown is uncut) in
       let same : held_of (next q) ≡ held_of (claimed said) = ap (λ v. held_of (claimed v)) (ap verdict_in (acts is)) in
       let is-so = so said in
-      build q h shown is (ap (λ (z : Thread). z.checked) now ∙ (is-so.0 ∙ ap (λ (z : Held). flags_of z.1) (sym same)))
+      build q h shown is uncut (ap (λ (z : Thread). z.checked) now ∙ (is-so.0 ∙ ap (λ (z : Held). flags_of z.1) (sym same)))
       (ap (λ (z : Held). z.2) same ∙ (is-so.1 ∙ ap (λ (z : Thread). is_ended z.life) (sym now))) (subst (λ (z : Thread). IsTrue (is_started z.life)) (sym now) is-so.2)
       (subst (λ (z : Held). Below z.1) (sym same) is-so.3)
     where
@@ -136,16 +147,23 @@ module _ (f : Fine) (m : State) (e : FineStep) (law : Lawful f m e) (suits : Sui
             below-more p.context.claims (row_named f.image a) was.below (named-below f m e law a),
           )
       so (Some e) = let was = own-part h in (was.claims, was.ended, was.started, was.below)
-  of-kept (Pending.Work a ask) h shown is =
-      let q = Pending.Work a ask in kept q h shown is (work-calls m t x a ask rest t) (continues-held f.image p.context 0 q rest (act_in e.act) e.moved tt)
-  of-kept (Pending.Start who script stack priority mode) h shown is =
+  of-kept (Pending.Work a ask) h shown is uncut =
+      let q = Pending.Work a ask in kept q h shown is uncut (work-calls m t x a ask rest t) (continues-held f.image p.context 0 q rest (act_in e.act) e.moved tt)
+  of-kept (Pending.FutexWake a every) h shown is uncut =
+      let q = Pending.FutexWake a every in kept q h shown is uncut (wake-calls m t x a every rest t) (continues-held f.image p.context 0 q rest (act_in e.act) e.moved tt)
+  of-kept (Pending.Start who script stack priority mode) h shown is uncut =
       let q = Pending.Start who script stack priority mode in
       let child = T.newborn m (thread_at m t) who.0 script q in
       let s = with_thread m who.0 child in
-      let here = room q h shown is in
+      let here = room q h shown is uncut in
       let long = set-long m.threads who.0 child in
       let now = at-here s.threads t (T.at_steps s.image (record (thread_at s t) { child = None }) rest) (omega (arith, here, long)) in
       let other = set-else m.threads who.0 t child (starts-another f m e law suits all rest todo who script stack priority mode h) in
-      kept q h shown is (ap call_of now ∙ ap call_of other) (continues-held f.image p.context 0 q rest (act_in e.act) e.moved tt)
-  of-kept Pending.Resume h shown is = absurd shown
-  of-kept q h shown is = beside q h shown is tt tt
+      kept q h shown is uncut (ap call_of now ∙ ap call_of other) (continues-held f.image p.context 0 q rest (act_in e.act) e.moved tt)
+  of-kept Pending.Resume h shown is uncut = absurd shown
+  of-kept (Pending.Cut who) h shown is uncut = absurd shown
+  of-kept (Pending.TimeOut who) h shown is uncut = absurd shown
+  of-kept Pending.Expire h shown is uncut = absurd shown
+  of-kept Pending.Tick h shown is uncut = absurd shown
+  of-kept Pending.Left h shown is uncut = absurd shown
+  of-kept q h shown is uncut = beside q h shown is uncut tt tt

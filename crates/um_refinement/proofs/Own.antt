@@ -1,6 +1,7 @@
 -- The own part of a thread goes on as the machine's thread does: both are made of the same data.
 use Rattle.um_refinement.proofs.Words.{◌≡◌, ℕ, ◌<◌, Bool, true, false, List, [], ◌∷◌, length, map, Option, Some, None, refl, sym, ap, ◌∙◌, subst, if◌then◌else◌, slice_set, take, length-map, Act, Found, Image, Instr, Addr, Errno, Mode, Policy, Told, Exchange, outcome_in, outcome_of, Pending, Thread, wrote, Change, Next, Way, changed, gone, held, steps_by, told_way, went, allowed, bytes_at, string_bytes, Steps, end_steps, fatal_steps, steps_of, is_empty, State, thread_at, Ignores, all_other, effects_of, key-same, keys-wrote, next_of, Context, as_thread, own_part, PIECE, Outcome, copied, text_change, text_way, work_change, work_way, string_read, first_place, next_place, after-is, image-wrote}
 use Rattle.um_base.specs.declared.names.Access.TheVariants as Access
+use Rattle.um_machine.specs.Writes.{cut}
 use Rattle.um_machine.specs.Table.{continues}
 use Rattle.um_machine.specs.Table as T
 use Rattle.um_fine.specs.Continues as C
@@ -25,6 +26,7 @@ module _ (u : State) (t : ℕ) (c : Context) (me : Thread) (own : as_thread c �
   own-changed (Change.register to value) = ap (λ (z : Thread). record z { registers = slice_set z.registers to value }) own
   own-changed (Change.copies bs) = ap (λ (z : Thread). record z { buffer = bs }) own
   own-changed (Change.says reply) = ap (λ (z : Thread). record z { reply = reply }) own
+  own-changed (Change.until deadline) = ap (λ (z : Thread). record z { until = deadline }) own
   own-changed (Change.outcome reply taken) = ap (λ (z : Thread). record z { reply = reply; buffer = taken }) own
 
   own-held : (x : ℕ) (v : Option Errno) → as_thread (C.held_part x v c) ≡ own_part (held x v me)
@@ -37,7 +39,7 @@ module _ (u : State) (t : ℕ) (c : Context) (me : Thread) (own : as_thread c �
   pub own-gone : (left : Steps) (next : Next) → as_thread (C.gone_part u.image left next c) ≡ own_part (gone left u t next me)
   own-gone left (Next.on change way) = ap (on_with u.image (steps_by left way)) (own-changed change)
   own-gone left (Next.checks x v way) = ap (on_with u.image (steps_by left way)) (own-held x v)
-  own-gone left (Next.answers to reply) = ap (λ (z : Thread). on_with u.image left (record z { registers = T.with_answer z.registers to reply })) own
+  own-gone left (Next.answers to reply) = ap (λ (z : Thread). on_with u.image left (record z { until = None; registers = T.with_answer z.registers to reply })) own
   own-gone left (Next.begins (Some instr)) =
       (λ i. on_with u.image (steps_of u.image (index i) (own i) instr) (record (own i) { registers = T.with_begin (own i).registers instr }))
       ∙ ap (λ (steps : Steps). on_with u.image steps (own_part (record me { registers = T.with_begin me.registers instr }))) (own-steps u.image t me instr)
@@ -48,20 +50,21 @@ module _ (u : State) (t : ℕ) (c : Context) (me : Thread) (own : as_thread c �
   own-gone left (Next.drops from) = ap (λ (z : Thread). record z { pending = Pending.Drops from ∷ left }) own
   own-gone left (Next.dooms from) = ap (λ (z : Thread). record z { pending = T.next_doom from }) own
   own-gone left (Next.enters script) = ap (λ (z : Thread). record z { mode = Mode.User; place = first_place u.image script; pending = [] }) own
-  own-gone left Next.exits = λ i. record (own i) { pending = end_steps u.image (index i) (own i) }
+  own-gone left Next.exits = λ i. record (own i) { until = None; pending = end_steps u.image (index i) (own i) }
   own-gone left (Next.fatal reason) =
-      (λ i. record (own i) { pending = fatal_steps u.image (index i) (own i) reason u.image.policy })
-      ∙ ap (λ (steps : Steps). record (own_part me) { pending = steps }) (own-fatal u.image t me u.image.policy reason)
+      (λ i. record (own i) { until = None; pending = fatal_steps u.image (index i) (own i) reason u.image.policy })
+      ∙ ap (λ (steps : Steps). record (own_part me) { until = None; pending = steps }) (own-fatal u.image t me u.image.policy reason)
   own-gone left Next.stays = own
   own-gone left next = ap (on_with u.image left) own
 
 module _ (m : State) (t : ℕ) where
-  -- the bytes that come with a step, and nobody starts itself
+  -- the bytes that come with a step, and nobody starts or cuts itself
   abbrev Comes : Pending → List ℕ → Type 0
   Comes (Pending.CopyIn a amount) came = allowed m t Access.Read a.0 (T.amount_of m amount) ≡ true → came ≡ take PIECE (bytes_at m a.0 (T.amount_of m amount))
   Comes (Pending.CopyStr a) came = (n : ℕ) → string_read m t a.0 32 ≡ Found.Length n → came ≡ string_bytes m a.0 n
   Comes (Pending.Work a ask) came = came ≡ (T.work_of m t a ask).taken
   Comes (Pending.Start who script stack priority mode) came = who.0 ≡ t → ⊥
+  Comes (Pending.Cut who) came = who.0 ≡ t → ⊥
   Comes Pending.Resume came = ⊥
   Comes q came = Unit {0}
 
@@ -91,7 +94,7 @@ module _ (m : State) (t : ℕ) where
 
     -- the writes leave it
     ignores : Ignores own_part all_other
-    ignores = record { due = λ h me due. refl; told = λ h me told. refl; domain = λ h me domain. refl; doomed = λ h me. refl }
+    ignores = record { due = λ h me due. refl; told = λ h me told. refl; domain = λ h me domain. refl; doomed = λ h me. refl; flagged = λ h me aborted suspended. refl }
 
     record Quiet (u : State) : Type 0 where
       long : length u.threads ≡ length m.threads
@@ -104,6 +107,8 @@ module _ (m : State) (t : ℕ) where
     quietly (Pending.Start who script stack priority mode) came h =
         let th = T.newborn m me who.0 script (Pending.Start who script stack priority mode) in
         record { long = set-long m.threads who.0 th; part = ap own_part (set-else m.threads who.0 t th h) }
+    quietly (Pending.Cut who) came h =
+        let th = cut (thread_at m who.0) in record { long = set-long m.threads who.0 th; part = ap own_part (set-else m.threads who.0 t th h) }
     quietly q came h = quiet (wrote (effects_of m t x q) m) (keys-wrote own_part all_other ignores (effects_of m t x q) m refl)
 
 pub went-here : (left : Steps) (u : State) (t : ℕ) (next : Next) → t < length u.threads → thread_at (went left u t next) t ≡ gone left u t next (thread_at u t)

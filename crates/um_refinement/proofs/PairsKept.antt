@@ -1,5 +1,5 @@
 -- The permissions in the words of rows are the machine's pairs after each event that writes none, where the relation holds before it.
-use Rattle.um_refinement.proofs.Words.{◌≡◌, ℕ, ◌<◌, Bool, true, false, cond, List, [], Option, Some, None, refl, sym, ap, ◌∙◌, ◌&&◌, not, if◌then◌else◌, nat_le, slice_index_or, Act, Event, SetSaid, Image, ROWS, STATIC_ROWS, Errno, Pending, Steps, State, FineAct, More, RowWord, after_verdict, is_free, is_live, row_after_act, act_in, set_in, verdict_in, FineStep, Site, SiteState, s_next, same_site, site_after, Todos, Processor, allows, more_of, says_step, shows, Fine, row, row_state, PairsAre, Rel, after_set}
+use Rattle.um_refinement.proofs.Words.{◌≡◌, ℕ, ◌<◌, Bool, true, false, cond, List, [], Option, Some, None, refl, sym, ap, ◌∙◌, ◌&&◌, not, if◌then◌else◌, nat_le, slice_index_or, Act, Event, Image, ROWS, STATIC_ROWS, Errno, Pending, Steps, State, FineAct, More, RowWord, after_verdict, is_free, row_after_act, act_in, verdict_in, FineStep, Site, SiteState, s_next, same_site, site_after, Todos, Processor, allows, more_of, says_step, shows, Fine, row, row_state, PairsAre, Rel}
 use Rattle.um_base.specs.declared.names.Access.TheVariants as Access
 use Rattle.um_machine.specs.Table as T
 use Rattle.um_refinement.proofs.Erased.{stepped}
@@ -14,7 +14,7 @@ NoPairs pairs = false
 NoPairs part = true
 
 pub pairs-same : (m : State) (t x : ℕ) (q : Pending) (rest : Steps) → Makes NoPairs q → (T.after m t x q rest).pairs ≡ m.pairs
-pairs-same m = read-same NoPairs (λ s. s.pairs) m (reads-keeping NoPairs (λ s. s.pairs) m.pairs (λ s threads. refl) (λ s objects. refl) (λ s bytes. (refl, refl)) (λ may s u x there. absurd may) (λ may s left. refl) (λ may s d ps. refl))
+pairs-same m = read-same NoPairs (λ s. s.pairs) m (reads-keeping NoPairs (λ s. s.pairs) m.pairs (λ s threads. refl) (λ s objects. refl) (λ s bytes. (refl, refl)) (λ may s u x there. absurd may) (λ may s left. refl) (λ may s d ps. refl) (λ may s joins futexes. refl) (λ may s now armed. refl))
 
 -- The fine machine.
 

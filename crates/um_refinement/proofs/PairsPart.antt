@@ -1,11 +1,11 @@
 -- The permissions in the words of rows are the machine's pairs after every lawful step.
-use Rattle.um_refinement.proofs.Words.{◌≡◌, ℕ, ◌<◌, Bool, true, false, cond, List, [], length, Option, refl, sym, ap, ◌∙◌, subst, arith, ◌==◌, ◌&&◌, not, if◌then◌else◌, nat_le, nat_lt, slice_index_or, slice_set, unwrap_or, and_parts, eqb-false, eqb-true, get_or-set_other, get_or-set_same, Act, Leftover, Image, ROWS, STATIC_ROWS, own_row, Status, Pending, Steps, State, object_at, pair_at, with_pair, FineAct, More, Unseen, RowWord, Stage, dropped, given_of, gone_stage, has, is_free, is_last, is_live, permitted, row_after, row_after_act, row_named, act_in, given_in, Todos, SiteState, s_next, same_site, site_after, site_takes, FineStep, Site, same-sound, Fine, row, row_state, PairsAre, is_reserved, status_of, set-get_or, le_is, row_after_unseen, row_takes_unseen}
+use Rattle.um_refinement.proofs.Words.{thread_at, to_thread, ◌≡◌, ℕ, ◌<◌, Bool, true, false, cond, List, [], length, Option, refl, sym, ap, ◌∙◌, subst, arith, ◌==◌, ◌&&◌, not, if◌then◌else◌, nat_le, nat_lt, slice_index_or, slice_set, unwrap_or, and_parts, eqb-false, eqb-true, get_or-set_other, get_or-set_same, Act, Leftover, Image, ROWS, STATIC_ROWS, own_row, Status, Pending, Steps, State, object_at, pair_at, with_pair, FineAct, More, Unseen, RowWord, Stage, dropped, given_of, gone_stage, has, is_free, is_last, is_live, permitted, row_after, row_after_act, row_named, act_in, given_in, Todos, SiteState, s_next, same_site, site_after, site_takes, FineStep, Site, same-sound, Fine, row, row_state, PairsAre, is_reserved, status_of, set-get_or, le_is, row_after_unseen, row_takes_unseen}
 use Rattle.um_base.specs.declared.act.Given.TheVariants as Given
 use Rattle.um_machine.specs.Objects as Plain
 use Rattle.um_machine.specs.Table as T
 use Rattle.um_refinement.proofs.CleaningFacts.{cleaning-is, ends-free}
 use Rattle.um_refinement.proofs.Erased.{around}
-use Rattle.um_refinement.proofs.Leaves.{Lawful, Leaves, cleans, drops, event, mine, nothing, passes, recycles, resumes}
+use Rattle.um_refinement.proofs.Leaves.{Beside, Lawful, Leaves, acting, beside, cleans, cuts, drops, event, expires, leaves, mine, nothing, passes, recycles, resumes, ticks, times_out}
 use Rattle.um_refinement.proofs.ObjectsKept.{born-reserved, unlived-dynamic, unlived-none}
 use Rattle.um_refinement.proofs.Offered.{IsStep, Shows, shown-offers, site-is}
 use Rattle.um_refinement.proofs.PairsKept.{HasSame, pairs-beside, pairs-kept}
@@ -228,6 +228,13 @@ module _ (f : Fine) (m : State) (e : FineStep) (law : Lawful f m e) (x : ℕ) (f
   same-row : (w : RowWord) → HasSame w w
   same-row w = record { permissions = refl; dynamic = refl; stage = refl }
 
+  on-beside : (t y : ℕ) (q : Pending) → Beside f m e t y q → PairsAre later (T.after m t y q (thread_at m t).pending) x
+  on-beside _ _ _ (cuts who site before y todo at place inside said) = pairs-beside f m law.rel e _ More.Nothing said (Pending.Cut (to_thread who)) (thread_at m (mine f m e)).pending (mine f m e) y x few (same-row (row f x)) tt
+  on-beside _ _ _ (times_out deadline site y who todo at place inside said) = pairs-beside f m law.rel e _ More.Nothing said (Pending.TimeOut who) (thread_at m (acting f m e)).pending (acting f m e) y x few (same-row (row f x)) tt
+  on-beside _ _ _ (expires deadline y todo at inside said) = pairs-beside f m law.rel e _ More.Nothing said Pending.Expire (thread_at m (acting f m e)).pending (acting f m e) y.0 x few (same-row (row f x)) tt
+  on-beside _ _ _ (ticks at said) = pairs-beside f m law.rel e _ More.Nothing said Pending.Tick (thread_at m (acting f m e)).pending (acting f m e) 0 x few (same-row (row f x)) tt
+  on-beside _ _ _ (leaves todo at said) = pairs-beside f m law.rel e _ More.Nothing said Pending.Left (thread_at m (mine f m e)).pending (mine f m e) 0 x few (same-row (row f x)) tt
+
   pub pairs-part : (s : State) → Leaves f m e s → PairsAre later s x
   pairs-part _ (nothing u said) = so (quiet-part u said)
   pairs-part _ (event q rest todo n h shown is) = by-event q rest todo n h shown is
@@ -246,3 +253,4 @@ module _ (f : Fine) (m : State) (e : FineStep) (law : Lawful f m e) (x : ℕ) (f
       let s = with_cleaner m (mine f m e) (own_row m.image who) in so (on-row y (visit-site h) _ said _ (drops-at s who y y refl refl) (drops-else s who y y refl refl))
   pairs-part _ (recycles y rest todo at l said chosen) =
       pairs-beside f m law.rel e _ More.Nothing said Pending.Recycle rest (mine f m e) y x few (same-row (row f x)) tt
+  pairs-part _ (beside t y q how chosen started) = on-beside t y q how

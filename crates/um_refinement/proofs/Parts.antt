@@ -1,5 +1,5 @@
 -- Every lawful step keeps the relation: its parts together, and in the states that a run of a described image reaches all that they ask for.
-use Rattle.um_refinement.proofs.Words.{sym, subst, ◌≡◌, ℕ, length, refl, ◌∙◌, Image, IsLawful, Pending, Steps, to_thread, opening, State, core_of, IsSited, IsKnown, IsDescribed, ByOneOf, cpu_of, site_of, Processor, SiteMay, SiteState, FineStep, Site, Fine, Rel, wrote, effects_of, next_of, ContextsAre, image-wrote, shared-went}
+use Rattle.um_refinement.proofs.Words.{Fits, thread_at, sym, subst, ◌≡◌, ℕ, length, refl, ◌∙◌, Image, IsLawful, Pending, Steps, to_thread, opening, State, core_of, IsSited, IsKnown, IsDescribed, ByOneOf, cpu_of, site_of, Processor, SiteMay, SiteState, FineStep, Site, Fine, Rel, wrote, effects_of, next_of, ContextsAre, image-wrote, shared-went}
 use Rattle.um_machine.specs.Table as T
 use Rattle.um_refinement.proofs.AwayPart.{away-part}
 use Rattle.um_refinement.proofs.CallsKnown.{RestsHoldNothing, own-known}
@@ -10,7 +10,41 @@ use Rattle.um_refinement.proofs.CleanSteps.{OwnRows}
 use Rattle.um_refinement.proofs.CleanerPart.{begun-part, cleaner-part}
 use Rattle.um_refinement.proofs.CleanersPart.{cleaners-part}
 use Rattle.um_refinement.proofs.ContentsPart.{NamesHeld, contents-part}
-use Rattle.um_refinement.proofs.ContextsPart.{added-field, parked-field, running-field}
+use Rattle.um_refinement.proofs.ContextsPart.{running-field}
+use Rattle.um_refinement.proofs.AddedPart.{added-field}
+use Rattle.um_refinement.proofs.ArmsKnown.{AreTimed, timed-known}
+use Rattle.um_refinement.proofs.ClockPart.{clock-part}
+use Rattle.um_refinement.proofs.CutComesPart.{cut-comes-part}
+use Rattle.um_refinement.proofs.CutPart.{AreAborted, cut-part}
+use Rattle.um_refinement.proofs.ExpiryPart.{expiry-part}
+use Rattle.um_refinement.proofs.JoinsPart.{joins-part}
+use Rattle.um_refinement.proofs.LookPart.{look-part}
+use Rattle.um_refinement.proofs.LooksPart.{looks-part}
+use Rattle.um_refinement.proofs.MarksPart.{marks-part}
+use Rattle.um_refinement.proofs.Offered.{begins-nothing}
+use Rattle.um_refinement.proofs.OwedPart.{owed-part}
+use Rattle.um_refinement.proofs.ParkedPart.{asleep-field, parked-field}
+use Rattle.um_refinement.proofs.ResumeSteps.{TellsWaiters}
+use Rattle.um_refinement.proofs.SleepPart.{sleep-part}
+use Rattle.um_refinement.proofs.StepsLeft.{first-rests}
+use Rattle.um_refinement.proofs.TimeoutPart.{timeout-part}
+use Rattle.um_refinement.proofs.TimerPart.{timer-part}
+use Rattle.um_refinement.proofs.UnarmedPart.{unarmed-part}
+use Rattle.um_refinement.proofs.WaitersFound.{WaitersWait}
+use Rattle.um_refinement.proofs.WaitsKept.{waits-noted}
+use Rattle.um_refinement.proofs.WaitersKnown.{UntilsAre, WaitersHold, holds-known, untils-known}
+use Rattle.um_refinement.proofs.NoteCells.{note-cell}
+use Rattle.um_refinement.proofs.NoteNumbers.{note-number}
+use Rattle.um_refinement.proofs.NotesBegun.{notes-begun}
+use Rattle.um_refinement.proofs.NotesCall.{begun-noted, note-call}
+use Rattle.um_refinement.proofs.NotesHeld.{notes-held}
+use Rattle.um_refinement.proofs.NotesKept.{notes-part}
+use Rattle.um_refinement.proofs.NotesThere.{note-there}
+use Rattle.um_refinement.proofs.ShutAlone.{shut-alone}
+use Rattle.um_refinement.proofs.ShutBegins.{begins-part}
+use Rattle.um_refinement.proofs.ShutClears.{clears-part}
+use Rattle.um_refinement.proofs.ShutDead.{shut-dead}
+use Rattle.um_refinement.proofs.ShutOpened.{shut-opened}
 use Rattle.um_refinement.proofs.DomainPart.{domain-part}
 use Rattle.um_refinement.proofs.DomainsKnown.{started-placed}
 use Rattle.um_refinement.proofs.DonePart.{done-part}
@@ -22,9 +56,10 @@ use Rattle.um_refinement.proofs.HeapPart.{heap-part}
 use Rattle.um_refinement.proofs.HeldDomainPart.{held-domain-part}
 use Rattle.um_refinement.proofs.HeldPart.{held-part}
 use Rattle.um_refinement.proofs.IdlePart.{idle-part}
-use Rattle.um_refinement.proofs.Kept.{lists-kept, sorts-kept}
-use Rattle.um_refinement.proofs.LawfulSteps.{Suits, lawful-next}
-use Rattle.um_refinement.proofs.Leaves.{HasStep, Lawful, Leaves, cleans, drops, event, mine, nothing, passes, recycles, resumes}
+use Rattle.um_refinement.proofs.Kept.{RestsFirst, lists-kept, rouses-bare, sorts-kept}
+use Rattle.um_refinement.proofs.KillsKnown.{aborted-known}
+use Rattle.um_refinement.proofs.LawfulSteps.{Suits, abort-below, begins, lawful-next}
+use Rattle.um_refinement.proofs.Leaves.{HasStep, Lawful, Leaves, beside, cleans, drops, event, mine, nothing, passes, recycles, resumes}
 use Rattle.um_refinement.proofs.ListBlocks.{blocks-kept}
 use Rattle.um_refinement.proofs.ListFrames.{frames-kept}
 use Rattle.um_refinement.proofs.MemoryPart.{InDomains, memory-part}
@@ -40,7 +75,7 @@ use Rattle.um_refinement.proofs.RunningPart.{running-part}
 use Rattle.um_refinement.proofs.SchedulerPart.{scheduler-part}
 use Rattle.um_refinement.proofs.SizesPart.{sizes-part}
 use Rattle.um_refinement.proofs.StatusPart.{status-part}
-use Rattle.um_refinement.proofs.SuitsKnown.{proper-known, rests-known, suits-known}
+use Rattle.um_refinement.proofs.SuitsKnown.{proper-known, rests-known, suits-known, tells-known, waits-known}
 use Rattle.um_refinement.proofs.TablePart.{table-part}
 use Rattle.um_refinement.proofs.ToldPart.{told-part}
 use Rattle.um_refinement.proofs.WordsPart.{words-part}
@@ -63,53 +98,109 @@ module _ (f : Fine) (m : State) (e : FineStep) (law : Lawful f m e) where
   image-part _ (drops from x rest todo h said) = image-same m (mine f m e) x (Pending.Drops from) rest ∙ law.rel.image
   image-part _ (cleans who x rest todo h said) = image-same m (mine f m e) x (Pending.CleanPair (to_thread who)) rest ∙ law.rel.image
   image-part _ (recycles x rest todo at l said chosen) = image-same m (mine f m e) x Pending.Recycle rest ∙ law.rel.image
+  image-part _ (beside t x q how chosen started) = image-same m t x q (thread_at m t).pending ∙ law.rel.image
 
-  contexts-part : InDomains f m → Suits f m → IsLawful m.image → AreProper m.image m → (s : State) (leaves : Leaves f m e s) → HasStep f m e s leaves → RestsHoldNothing s → ContextsAre later s
-  contexts-part all suits lawful proper s leaves has rests =
+  contexts-part : InDomains f m → Suits f m → IsLawful m.image → AreProper m.image m → (s : State) (how : Leaves f m e s) → HasStep f m e s how → RestsHoldNothing s → ContextsAre later s
+  contexts-part all suits lawful proper s how has rests =
       record {
-        running = running-field f m e law suits all s leaves has rests;
-        parked = parked-field f m e law proper s leaves;
-        added = added-field f m e law lawful suits all s leaves;
-        once = once-part f m e law s leaves;
-        done = done-part f m e law proper s leaves;
+        running = running-field f m e law suits all s how has rests;
+        parked = parked-field f m e law s how;
+        asleep = asleep-field f m e law suits.rests s how;
+        added = added-field f m e law lawful suits all s how;
+        once = once-part f m e law s how;
+        done = done-part f m e law proper s how;
       }
+
+  -- what a thread at rest begins stands on no list but for one at rest
+  begins-first : OwnRows f.image → InDomains f m → Suits f m → RestsFirst (f.processors e.cpu)
+  begins-first own all suits q rest todo at first =
+      let offered = (subst (Fits f.image (f.processors e.cpu).context) at (law.rel.processors e.cpu law.by.named).list.fits).0 in
+      (first-rests f.image (f.processors e.cpu).context q rest offered first (begins-nothing law.rel law.by.named (begins f m e law suits own all) q rest todo at)).0
+
+  -- what is known of the machine's state before the step and after it, beside what the lawful steps ask for
+  pub record AreKnown (s : State) : Type 0 where
+    pub tells : TellsWaiters s
+    pub waits : WaitersWait s
+    pub timed : AreTimed m
+    pub holding : WaitersHold m
+    pub untils : UntilsAre s
+    pub aborted : AreAborted s
 
   -- the relation holds after the step
   pub related : OwnRows f.image → InDomains f m → Suits f m → IsLawful m.image → AreProper m.image m → DuesKnown m → NamesHeld m → GivesHeld m → MovesIn m (length f.image.domains) → AreQueues m
-      → (s : State) (leaves : Leaves f m e s) → HasStep f m e s leaves → RestsHoldNothing s → DuesKnown s → Rel later s
-  related own all suits lawful proper before names gives moves queues s leaves has rests after =
+      → (s : State) (how : Leaves f m e s) → HasStep f m e s how → Goes m e s → RestsHoldNothing s → DuesKnown s → AreKnown s → Rel later s
+  related own all suits lawful proper before names gives moves queues s how has goes rests after known =
       record {
-        image = image-part s leaves;
+        image = image-part s how;
         sorts = sorts-kept f.image f.sites e law.rel.sorts;
-        contexts = contexts-part all suits lawful proper s leaves has rests;
+        contexts = contexts-part all suits lawful proper s how has rests;
         running = running-part f m e law;
         scheduler = scheduler-part f m e law;
         threads = λ t l.
-            record { word = words-part f m e law t l s leaves; away = away-part f m e law suits all s leaves has t l; told = told-part f m e law suits all before.kept t l s leaves; held = held-part f m e law t l; ready = ready-part f m e law suits.tells t l };
+            let told = told-part f m e law suits all before.kept t l s how in
+            record {
+              word = words-part f m e law t l s how;
+              away = away-part f m e law suits all s how has t l;
+              told = told;
+              held = held-part f m e law t l;
+              ready = ready-part f m e law suits.tells t l;
+              note =
+                  let noted = begun-noted f m e law t l in
+                  record {
+                    there = note-there f m e law s how t l;
+                    number = note-number f m e law s how t l;
+                    cell = note-cell f m e law t l;
+                    waits = waits-noted f m e law suits.waits t l s how (λ x inside. noted x);
+                    kept = notes-held f m e law suits.waits t l s how (λ x c inside new lies. notes-begun f m e law suits.waits t l s how x c new (noted x new) (law.rel.notes.places x inside) lies);
+                    call = note-call f m e law t l suits all known.timed s how has;
+                  };
+              cut = cut-part f m e law s how t l known.tells known.aborted told;
+              cut_comes = cut-comes-part f m e law known.holding suits.waits t l s how;
+              looks = looks-part f m e law s how t l;
+              sleep = sleep-part f m e law s how t l;
+              shut = record { dead = shut-dead f m e law proper t l s how; alone = shut-alone f m e law t l s how; owned = λ own. shut-opened f m e law t l s how ((law.rel.threads t l).shut.owned own); clears = clears-part f m e law proper t l s how; begins = begins-part f m e law proper t l s how };
+              timeout = timeout-part f m e law known.holding suits.waits t l s how goes known.waits known.untils;
+            };
         rows = λ x l.
-            record { pairs = pairs-part f m e law x l s leaves; status = status-part f m e law x l s leaves; contents = contents-part f m e law suits names x l s leaves; claims = claims-part f m e law x l suits before.creates lawful s leaves; cleaners = cleaners-part f m e law x l s leaves; cleaner = cleaner-part f m e law x l own s leaves };
-        domains = λ d l. domain-part f m e law d l s leaves;
+            record {
+              pairs = pairs-part f m e law x l s how;
+              status = status-part f m e law x l s how;
+              contents = contents-part f m e law suits names x l s how;
+              claims = claims-part f m e law x l suits before.creates lawful s how;
+              cleaners = cleaners-part f m e law x l s how;
+              cleaner = cleaner-part f m e law x l own s how;
+              expiry = expiry-part f m e law x l s how;
+            };
+        domains = λ d l. domain-part f m e law d l s how;
         processors = λ k l.
             record {
-              list = lists-kept f m law.rel e law.by.may law.taken k l;
+              list = lists-kept f m law.rel e law.by.may law.taken (begins-first own all suits) k l;
               idle = idle-part f m e law k l;
-              domain = held-domain-part f m e law s leaves k l;
-              dues = dues-part f m e law before lawful s leaves has (image-part s leaves) after (contexts-part all suits lawful proper s leaves has rests).running k l;
-              table = table-part f m e law all s leaves k l;
-              looks = record { size = sizes-part f m e law queues s leaves k l; reply = λ d. reply-part f m e law moves s leaves k d l };
+              timer = timer-part f m e law s how k l;
+              unarmed = unarmed-part f m e law suits.tells known.timed s how k l;
+              look = look-part f m e law (abort-below f m e law suits own all (f.processors e.cpu).context.thread) s how k l;
+              domain = held-domain-part f m e law s how k l;
+              dues = dues-part f m e law before lawful s how has (image-part s how) after (contexts-part all suits lawful proper s how has rests).running k l;
+              table = table-part f m e law all s how k l;
+              looks = record { size = sizes-part f m e law queues s how k l; reply = λ d. reply-part f m e law moves s how k d l };
               blocks = blocks-kept f m law.rel e k l;
-              frames = frames-kept f m law.rel e k l;
+              frames = frames-kept f m law.rel e (rouses-bare f m law.rel (f.processors e.cpu) e law.by.may law.taken) k l;
               rows = rows-part f m e law k l;
               cleaning = λ x few.
                   record {
-                    begun = begun-part f m e law x few own s leaves k l;
-                    emptied = λ who thread. emptied-part f m e law gives own x few who thread s leaves k l;
+                    begun = begun-part f m e law x few own s how k l;
+                    emptied = λ who thread. emptied-part f m e law gives own x few who thread s how k l;
                     order = order-part f m e law x few k l;
-                    charged = charged-part f m e law x few suits s leaves k l;
+                    charged = charged-part f m e law x few suits s how k l;
                   };
             };
-        memory = memory-part f m e law all s leaves;
-        heap = heap-part f m e law s leaves;
+        memory = memory-part f m e law all s how;
+        heap = heap-part f m e law s how;
+        joins = joins-part f m e law s how;
+        notes = notes-part f m e law s how;
+        clock = clock-part f m e law s how;
+        owed = owed-part f m e law;
+        marks = marks-part f m e law suits.tells known.timed s how;
       }
 
 -- What a lawful step leaves of the machine's state, and that the relation holds then.
@@ -136,11 +227,19 @@ kept-step image cpus described known ps ss m e rel reach by taken =
     let after = dues-known image cpus described known next.state onwards in
     let moves = subst (λ (i : Image). MovesIn m (length i.domains)) rel.image (moves-known image cpus described known m reach) in
     let queues = queues-known image cpus described known m reach in
+    let facts : AreKnown f m e law next.state = record {
+      tells = tells-known image cpus described known next.state onwards;
+      waits = waits-known image cpus described known next.state onwards;
+      timed = timed-known image cpus m reach;
+      holding = holds-known image cpus described known m reach;
+      untils = untils-known image cpus described known next.state onwards;
+      aborted = aborted-known image cpus described known next.state onwards;
+    } in
     record {
       state = next.state;
       leaves = next.leaves;
       goes = next.goes;
-      related = related f m e law own all suits lawful proper before (names-known image cpus described known m reach) (gives-known image cpus described known m reach) moves queues next.state next.leaves next.has rests after;
+      related = related f m e law own all suits lawful proper before (names-known image cpus described known m reach) (gives-known image cpus described known m reach) moves queues next.state next.leaves next.has next.goes rests after facts;
     }
 
 -- Every lawful step keeps the relation with a state that a run of a described image reaches.

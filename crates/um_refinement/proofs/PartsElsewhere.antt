@@ -1,29 +1,43 @@
 -- What a step leaves of the own parts of threads that it isn't of, wherever they lie.
-use Rattle.um_refinement.proofs.Words.{◌≡◌, ℕ, ◌<◌, Bool, true, false, cond, List, [], ◌∷◌, Option, Some, None, refl, sym, ap, ◌∙◌, subst, eq-eqb, ◌&&◌, IsTrue, not, unwrap_or, and_parts, false≢true, true≢false, Act, Leftover, Told, THREADS, ThreadIx, own_row, Pending, Life, Thread, Steps, to_thread, is_empty, State, is_living, is_started, thread_at, FineAct, Unseen, ThreadWord, thread_after, thread_after_act, context_in, ready_in, says_idle, Context, no_context, Todo, Todos, first_ready, first_taken, has_ready, one_less, parked_at, put_back, told_at, SiteState, s_next, same_site, site_after, Exchange, FineStep, Site, Fine, scheduler, thread_state, word, has_steps, Fits, is_over, IsOf, is_ended, own_part, runs_on}
+use Rattle.um_refinement.proofs.Words.{◌≡◌, ◌⊎◌, inl, inr, ℕ, zero, suc, ◌<◌, Bool, true, false, cond, [], ◌∷◌, Option, Some, None, refl, sym, ap, ◌∙◌, subst, arith, ◌==◌, eq-eqb, ne_eqb, eqb-true, eqb-false, ◌&&◌, IsTrue, if◌then◌else◌, is_some, not, unwrap_or, false≢true, true≢false, Act, Leftover, Told, THREADS, ThreadIx, own_row, Pending, Life, Thread, Steps, to_thread, is_empty, MayChoose, State, is_living, is_started, thread_at, FineAct, Unseen, ThreadWord, thread_after, thread_after_act, by_me, Context, as_thread, Todo, Todos, SiteState, s_next, same_site, site_after, Exchange, FineStep, Site, Fine, one_if, scheduler, thread_state, word, runs, Fits, is_over, IsOf, is_ended, own_part, runs_on}
 use Rattle.um_machine.specs.Table as T
+use Rattle.um_fine.specs.Answers.{is_void}
+use Rattle.um_fine.specs.Scheduler.{is_cut, to_kill}
+use Rattle.um_refinement.specs.Threads.{as_cut, cutters}
 use Rattle.um_refinement.proofs.CallsKnown.{starts-known}
+use Rattle.um_refinement.proofs.CuttersKept.{cutters-idle, cutters-on, cutters-other, cutters-told}
+use Rattle.um_refinement.proofs.EachUncut.{NotCut}
 use Rattle.um_refinement.proofs.Erased.{around}
-use Rattle.um_refinement.proofs.Kept.{idle-moves, idle-takes}
-use Rattle.um_refinement.proofs.Leaves.{Lawful, Leaves, cleans, drops, event, mine, nothing, passes, recycles, resumes}
-use Rattle.um_refinement.proofs.Offered.{Shows, shown-offers, shown-on}
-use Rattle.um_refinement.proofs.Others.{doing, others, starts_other}
-use Rattle.um_refinement.proofs.ResumeSteps.{some-is}
+use Rattle.um_refinement.proofs.Leaves.{Beside, Lawful, Leaves, beside, cleans, cuts, drops, event, expires, leaves, mine, nothing, passes, recycles, resumes, ticks, times_out}
+use Rattle.um_refinement.proofs.ListCuts.{found}
+use Rattle.um_refinement.proofs.Offered.{Shows, shown-offers, shown-on, shows-runs}
+use Rattle.um_refinement.proofs.Others.{NoTurn, all-others, doing, others, starts_other}
 use Rattle.um_refinement.proofs.RowSteps.{thread-sort}
-use Rattle.um_refinement.proofs.RunningPart.{idle-after}
-use Rattle.um_refinement.proofs.SchedulerSteps.{made-at, made-moves, made-says, sched-later, sched-moved, sched-took}
+use Rattle.um_refinement.proofs.SchedulerSteps.{made-says}
 use Rattle.um_refinement.proofs.StepsLeft.{drops-on, passes-on}
+use Rattle.um_refinement.proofs.ThreadLists.{paired-same}
+use Rattle.um_refinement.proofs.VisitSteps.{visit-runs}
+use Rattle.um_refinement.proofs.WordsKept.{IsShown}
 use Rattle.um_refinement.proofs.WordsPart.{words-part}
 use Rattle.um_refinement.proofs.Writes.{with_dropped, with_cleaner, with_left}
-use Rattle.um_refinement.proofs.ThreadLists.{paired-same}
+use Rattle.um_refinement.proofs.Taking.{CutNow, Idles, idles, kill-thread, of-cut, takes, tends}
 
 -- a thread that was started stays so
 life-started : (w : ThreadWord) (act : FineAct) → is_started w.life ≡ true → is_started (thread_after w act).life ≡ true
 life-started w (FineAct.Shown said more) h = by said.act
   where
+    flag : (b : Bool) (z : ThreadWord) → is_started z.life ≡ true → is_started (if b then z else w).life ≡ true
+    flag true z k = k
+    flag false z k = h
+
     by : (act : Act) → is_started (thread_after_act w more act).life ≡ true
     by Act.Exit = refl
+    by Act.Killed = refl
     by (Act.Fatal reason cause) = refl
     by (Act.Start who) = refl
+    by (Act.Abort who done) = flag (is_living w.life) (record w { aborted = true }) h
+    by (Act.Suspend who done) = flag (is_living w.life) (record w { suspended = true }) h
+    by (Act.Continue who done) = flag (is_living w.life) (record w { suspended = false }) h
     by act = h
 life-started w (FineAct.Unseen Unseen.Hold) h = h
 life-started w (FineAct.Unseen Unseen.LetGo) h = h
@@ -40,103 +54,29 @@ clean-doing m t x who u =
       | Leftover.Gone ↦ paired
     ]
 
--- the thread that a step takes: the first of the ready list
-pub record IsTaken (f : Fine) (e : FineStep) : Type 0 where
-  pub thread : ℕ
-  pub list : List ℕ
-  pub context : Context
-  pub told : Option Told
-  pub ready : (scheduler f).ready ≡ thread ∷ list
-  pub moved : e.moved ≡ Exchange.thread context told
-  pub same : context.thread ≡ thread
-  pub tells : told ≡ told_at (scheduler f) thread
-  pub after : scheduler (around f e).later ≡ first_taken (scheduler f) (thread ∷ list)
+-- the row of a look, where one comes first
+abbrev looks_at : Todos → Option ℕ
+looks_at (Todo.look who site before ∷ todo) = Some who
+looks_at todo = None
+
+abbrev is_event : FineAct → Bool
+is_event (FineAct.Shown said more) = true
+is_event (FineAct.Unseen u) = false
 
 module _ (f : Fine) (m : State) (e : FineStep) (law : Lawful f m e) where
   open around f e use {later, processor as p}
 
-  -- somebody is ready, and the first of them is what is taken
-  first-ready : p.todo ≡ [] → IsTrue (has_ready (scheduler f) (scheduler f).ready) × (e.moved ≡ first_ready (scheduler f) (scheduler f).ready)
-  first-ready at =
-      let said = made-says f m e law [] at in (
-        idle-takes f.image p (scheduler f) e.moved (sched-took f m e law (made-at f m e law [] at) (says_idle f.image p e.moved) said),
-        sym (sched-moved f m e law (made-at f m e law [] at) (says_idle f.image p e.moved) said) ∙ idle-moves f.image p (scheduler f) e.moved,
-      )
-
-  -- The thread that is taken is parked.
-
-  pub taken-parked : p.todo ≡ [] → (c : Context) (told : Option Told) → e.moved ≡ Exchange.thread c told → parked_at (scheduler f) c.thread ≡ Some c
-  taken-parked at c told moved = by (scheduler f).ready refl
+  -- one that has no step left as the machine has it, has none
+  rests-alike : (c : Context) → IsOf f m c → (thread_at m c.thread).pending ≡ [] → c.pending ≡ []
+  rests-alike c of none = by (cutters f c.thread) (ap (λ (th : Thread). th.pending) of.own ∙ none)
     where
-      ready : IsTrue (has_ready (scheduler f) (scheduler f).ready)
-      ready = (first-ready at).0
-
-      first : e.moved ≡ first_ready (scheduler f) (scheduler f).ready
-      first = (first-ready at).1
-
-      by : (list : List ℕ) → (scheduler f).ready ≡ list → parked_at (scheduler f) c.thread ≡ Some c
-      by [] q = absurd (false≢true (subst (λ (l : List ℕ). IsTrue (has_ready (scheduler f) l)) q ready))
-      by (u ∷ list) q =
-          let some = some-is (parked_at (scheduler f) u) (and_parts _ _ (subst (λ (l : List ℕ). IsTrue (has_ready (scheduler f) l)) q ready)).0 in
-          let same : some.0 ≡ c = ap (λ (o : Option Context). unwrap_or o no_context) (sym some.1) ∙ ap thread_of (sym (sym moved ∙ (first ∙ ap (first_ready (scheduler f)) q))) in
-          let is = law.rel.contexts.parked u some.0 some.1 in
-          subst (λ n. parked_at (scheduler f) n ≡ Some c) (sym is.1 ∙ ap (λ (z : Context). z.thread) same) (some.1 ∙ ap (λ (z : Context). Some z) same)
-        where
-          thread_of : Exchange → Context
-          thread_of (Exchange.thread d told) = d
-          thread_of moved = no_context
-
-  -- what is taken is a thread, the first of the ready list
-  pub takes-first : p.todo ≡ [] → IsTaken f e
-  takes-first at = by (scheduler f).ready refl
-    where
-      ready : IsTrue (has_ready (scheduler f) (scheduler f).ready)
-      ready = (first-ready at).0
-
-      first : e.moved ≡ first_ready (scheduler f) (scheduler f).ready
-      first = (first-ready at).1
-
-      by : (list : List ℕ) → (scheduler f).ready ≡ list → IsTaken f e
-      by [] q = absurd (false≢true (subst (λ (l : List ℕ). IsTrue (has_ready (scheduler f) l)) q ready))
-      by (u ∷ list) q =
-          let some = some-is (parked_at (scheduler f) u) (and_parts _ _ (subst (λ (l : List ℕ). IsTrue (has_ready (scheduler f) l)) q ready)).0 in
-          record {
-            thread = u;
-            list = list;
-            context = unwrap_or (parked_at (scheduler f) u) no_context;
-            told = told_at (scheduler f) u;
-            ready = q;
-            moved = first ∙ ap (first_ready (scheduler f)) q;
-            same = ap (λ (o : Option Context). (unwrap_or o no_context).thread) some.1 ∙ (law.rel.contexts.parked u some.0 some.1).1;
-            tells = refl;
-            after = sched-later f m e law (made-at f m e law [] at) (says_idle f.image p e.moved) (made-says f m e law [] at) ∙ (idle-after f.image p (scheduler f) e.moved ∙ ap (first_taken (scheduler f)) q);
-          }
-
-  -- what the scheduler has once a thread is parked
-  pub parks-after : (todo : Todos) → p.todo ≡ Todo.park ∷ todo → scheduler later ≡ one_less (put_back (scheduler f) (ready_in e.act) p.context)
-  parks-after todo at =
-      sched-later f m e law (made-at f m e law (Todo.park ∷ todo) at) (FineAct.Unseen (Unseen.Park (to_thread p.context.thread) (ready_in e.act))) (made-says f m e law (Todo.park ∷ todo) at)
-      ∙ ap (λ (mv : Exchange). one_less (put_back (scheduler f) (ready_in e.act) (context_in mv))) (made-moves f m e law (Todo.park ∷ todo) at)
-
-  -- and what it is told stands with the scheduler
-  pub taken-told : p.todo ≡ [] → (c : Context) (told : Told) → e.moved ≡ Exchange.thread c (Some told) → told_at (scheduler f) c.thread ≡ Some told
-  taken-told at c told moved =
-      let first = takes-first at in
-      let same : Exchange.thread first.context first.told ≡ Exchange.thread c (Some told) = sym first.moved ∙ moved in
-      let index : first.thread ≡ c.thread = sym first.same ∙ ap thread_in same in
-      subst (λ n. told_at (scheduler f) n ≡ Some told) index (sym first.tells ∙ ap told_in same)
-    where
-      thread_in : Exchange → ℕ
-      thread_in (Exchange.thread d w) = d.thread
-      thread_in moved = 0
-
-      told_in : Exchange → Option Told
-      told_in (Exchange.thread d w) = w
-      told_in moved = None
+      by : (n : ℕ) → (as_cut n c).pending ≡ [] → c.pending ≡ []
+      by zero h = h
+      by (suc n) h = absurd (false≢true (ap is_empty h))
 
   -- who is started next lies nowhere
-  pub starts-apart : (c : Context) → IsOf m c → is_over c ≡ false → (q : Pending) (rest : Steps) (todo : Todos) → Shows f m e.cpu e q rest todo → starts_other c.thread q
-  starts-apart c of on (Pending.Start who script stack priority mode) rest todo h = λ same.
+  pub starts-apart : (c : Context) → IsOf f m c → is_over c ≡ false → (q : Pending) (rest : Steps) (todo : Todos) → Shows f m e.cpu e q rest todo → NotCut q → starts_other c.thread q
+  starts-apart c of on (Pending.Start who script stack priority mode) rest todo h uncut = λ same.
       let new = starts-known m law.sound p.context.thread who script stack priority mode rest (shown-offers h) in
       by (thread_at m c.thread).life refl (ap (λ n. is_living (thread_at m n).life) (sym same) ∙ new.0) (ap (λ n. (thread_at m n).pending) (sym same) ∙ new.1)
     where
@@ -144,11 +84,21 @@ module _ (f : Fine) (m : State) (e : FineStep) (law : Lawful f m e) where
       by Life.Unborn q dead none = false≢true (sym (ap is_started q) ∙ of.started)
       by Life.Living q dead none = true≢false (sym (ap is_living q) ∙ dead)
       by Life.Ended q dead none =
-          let pending = ap (λ (th : Thread). th.pending) of.own ∙ none in
+          let pending = rests-alike c of none in
           true≢false (sym (λ i. ((of.ended ∙ ap is_ended q) i) && is_empty (pending i)) ∙ on)
-  starts-apart c of on q rest todo h = tt
+  starts-apart c of on (Pending.Cut who) rest todo h uncut = absurd uncut
+  starts-apart c of on q rest todo h uncut = tt
 
-  module _ (s : State) (leaves : Leaves f m e s) where
+  uncut-shown : (q : Pending) → IsShown q → NotCut q
+  uncut-shown (Pending.Cut who) h = absurd h
+  uncut-shown q h = tt
+
+  module _ (s : State) (left : Leaves f m e s) where
+    -- whether a step cuts this thread
+    abbrev pub CutsNot : (z : State) → Leaves f m e z → ℕ → Type 0
+    CutsNot _ (beside t x q how chosen started) v = starts_other v q
+    CutsNot _ l v = Unit {0}
+
     -- whether a step is of another thread
     abbrev pub Apart : (z : State) → Leaves f m e z → ℕ → Type 0
     Apart _ (nothing u said) v = Unit {0}
@@ -158,9 +108,17 @@ module _ (f : Fine) (m : State) (e : FineStep) (law : Lawful f m e) where
     Apart _ (drops from x rest todo h said) v = mine f m e ≡ v → ⊥
     Apart _ (cleans who x rest todo h said) v = Unit {0}
     Apart _ (recycles x rest todo at l said chosen) v = Unit {0}
+    Apart _ (beside t x q how chosen started) v = starts_other v q
 
-    pub stays : (v : ℕ) → Apart s leaves v → doing (thread_at s v) ≡ doing (thread_at m v)
-    stays v apart = by s leaves apart
+    no-turn : (t x : ℕ) (q : Pending) → Beside f m e t x q → NoTurn m t x q
+    no-turn _ _ _ (cuts who site before x todo at place inside said) = tt
+    no-turn _ _ _ (times_out deadline site x who todo at place inside said) = tt
+    no-turn _ _ _ (expires deadline x todo at inside said) = tt
+    no-turn _ _ _ (ticks at said) = tt
+    no-turn _ _ _ (leaves todo at said) = tt
+
+    pub stays : (v : ℕ) → Apart s left v → doing (thread_at s v) ≡ doing (thread_at m v)
+    stays v apart = by s left apart
       where
         by : (z : State) (l : Leaves f m e z) → Apart z l v → doing (thread_at z v) ≡ doing (thread_at m v)
         by _ (nothing u said) a = refl
@@ -170,23 +128,117 @@ module _ (f : Fine) (m : State) (e : FineStep) (law : Lawful f m e) where
         by _ (drops from x rest todo h said) a = others m (mine f m e) v a x (Pending.Drops from) rest tt
         by _ (cleans who x rest todo h said) a = clean-doing m (mine f m e) x (to_thread who) v
         by _ (recycles x rest todo at l said chosen) a = refl
+        by _ (beside t x q how chosen started) a = all-others m t v x q (thread_at m t).pending (no-turn t x q how) a
 
-    pub of-stays : (c : Context) → IsOf m c → Apart s leaves c.thread → IsOf s c
-    of-stays c of apart =
+    pub of-stays : (c : Context) → IsOf f m c → Apart s left c.thread → cutters later c.thread ≡ cutters f c.thread → IsOf later s c
+    of-stays c of apart cuts-same =
         let same = stays c.thread apart in
         record {
           index = of.index;
-          own = of.own ∙ ap own_part (sym same);
+          own = ap (λ n. as_thread (as_cut n c)) cuts-same ∙ (of.own ∙ ap own_part (sym same));
+          waiting = λ some. of.waiting (subst (λ n. 0 < n) cuts-same some);
           claims = ap (λ (th : Thread). th.checked) same ∙ of.claims;
           ended = of.ended ∙ ap (λ (th : Thread). is_ended th.life) (sym same);
           started = subst (λ (th : Thread). IsTrue (is_started th.life)) (sym same) of.started;
           below = of.below;
         }
 
+    -- A step that cuts another thread, or none, leaves in how many places it stands that this one was cut, unless it is taken.
+
+    cuts-other : (v who : ℕ) (todo : Todos) (site before : ℕ) → CutsNot s left v → p.todo ≡ Todo.look who site before ∷ todo → is_void e.act ≡ false → who ≡ v → ⊥
+    cuts-other v who todo site before free at finds same = by s left free
+      where
+        event-made : is_event e.act ≡ true
+        event-made = ap is_event (made-says f m e law (Todo.look who site before ∷ todo) at ∙ ap (λ b. if b then FineAct.Unseen Unseen.Void else by_me f.image p (Act.Cut (to_thread who))) finds)
+
+        another : (list : Todos) → p.todo ≡ list → looks_at list ≡ None → ⊥
+        another list there none = false≢true (ap is_some (sym none ∙ ap looks_at (sym there ∙ at)))
+
+        by-beside : (t x : ℕ) (q : Pending) → Beside f m e t x q → starts_other v q → ⊥
+        by-beside _ _ _ (cuts w there older x list here place inside said) a =
+            a (ap (λ (o : Option ℕ). unwrap_or o w) (ap looks_at (sym here ∙ at)) ∙ same)
+        by-beside _ _ _ (times_out deadline there x w list here place inside said) a = another _ here refl
+        by-beside _ _ _ (expires deadline x list here inside said) a = another _ here refl
+        by-beside _ _ _ (ticks here said) a = another _ here refl
+        by-beside _ _ _ (leaves list here said) a = another _ here refl
+
+        by : (z : State) (l : Leaves f m e z) → CutsNot z l v → ⊥
+        by _ (nothing u said) a = false≢true (sym (ap is_event said) ∙ event-made)
+        by _ (event q rest list x h shown is) a = another _ h.at refl
+        by _ (resumes c told rest idle moved said) a = another _ idle refl
+        by _ (passes w x rest list h said) a = another _ h.at refl
+        by _ (drops from x rest list h said) a = another _ h.at refl
+        by _ (cleans w x rest list h said) a = another _ h.at refl
+        by _ (recycles x rest list here l said chosen) a = another _ here refl
+        by _ (beside t x q how chosen started) a = by-beside t x q how a
+
+    found-none : (v : ℕ) → CutsNot s left v → (q : Todo) (todo : Todos) → p.todo ≡ q ∷ todo → found f.image v e q ≡ 0
+    found-none v free (Todo.look who site before) todo at = by (is_void e.act) refl
+      where
+        by : (b : Bool) → is_void e.act ≡ b → (if is_void e.act then 0 else one_if (who == v)) ≡ 0
+        by true k = ap (λ b. if b then 0 else one_if (who == v)) k
+        by false k = ap (λ b. if b then 0 else one_if (who == v)) k ∙ ap one_if (ne_eqb who v (cuts-other v who todo site before free at k))
+    found-none v free q todo at = refl
+
+    pub cutters-same : (v : ℕ) → v < THREADS → CutsNot s left v → ((c : Context) (told : Option Told) → p.todo ≡ [] → e.moved ≡ Exchange.thread c told → c.thread ≡ v → ⊥)
+        → cutters later v ≡ cutters f v
+    cutters-same v few free untaken = by p.todo refl
+      where
+        resting : p.todo ≡ [] → Idles f e → cutters later v ≡ cutters f v
+        resting at (takes first) =
+            cutters-other f m e law at first.site first.said first.thread first.list first.ready v
+            (λ same. untaken (to_kill (is_cut (scheduler f) first.thread) first.parked) first.told at first.moved (kill-thread (is_cut (scheduler f) first.thread) first.parked ∙ (first.same ∙ same)))
+        resting at (tends is) = cutters-idle f m e law v at is.site
+
+        by : (todo : Todos) → p.todo ≡ todo → cutters later v ≡ cutters f v
+        by [] at = resting at (idles f m e law at)
+        by (Todo.tell_cut who ∷ todo) at = cutters-told f m e law who todo at v few
+        by (q ∷ todo) at =
+            let all = cutters-on f m e law v q todo at refl in
+            let none = found-none v free q todo at in omega (arith, all, none)
+
+    -- where a step cuts it, or not
+    pub cuts-or-not : (v : ℕ) → CutsNot s left v ⊎ CutNow f m e v s
+    cuts-or-not v = by s left
+      where
+        by-beside : (t x : ℕ) (q : Pending) (how : Beside f m e t x q) → MayChoose m t x q → starts_other v q ⊎ CutNow f m e v (T.after m t x q (thread_at m t).pending)
+        by-beside t x _ (cuts who site before _ todo at place inside said) chosen = which (who == v) refl
+          where
+            which : (b : Bool) → (who == v) ≡ b → starts_other v (Pending.Cut (to_thread who)) ⊎ CutNow f m e v (T.after m t x (Pending.Cut (to_thread who)) (thread_at m t).pending)
+            which true k =
+                inr (record {
+                  maker = t;
+                  cell = x;
+                  who = who;
+                  same = eqb-true who v k;
+                  chosen = chosen;
+                  leaves = refl;
+                  site = site;
+                  before = before;
+                  todo = todo;
+                  at = at;
+                  found = ap is_void said;
+                })
+            which false k = inl (eqb-false who v k)
+        by-beside _ _ _ (times_out deadline site x who todo at place inside said) chosen = inl tt
+        by-beside _ _ _ (expires deadline x todo at inside said) chosen = inl tt
+        by-beside _ _ _ (ticks at said) chosen = inl tt
+        by-beside _ _ _ (leaves todo at said) chosen = inl tt
+
+        by : (z : State) (l : Leaves f m e z) → CutsNot z l v ⊎ CutNow f m e v z
+        by _ (nothing u said) = inl tt
+        by _ (event q rest list x h shown is) = inl tt
+        by _ (resumes c told rest idle moved said) = inl tt
+        by _ (passes w x rest list h said) = inl tt
+        by _ (drops from x rest list h said) = inl tt
+        by _ (cleans w x rest list h said) = inl tt
+        by _ (recycles x rest list here l said chosen) = inl tt
+        by _ (beside t x q how chosen started) = by-beside t x q how chosen
+
     pub started-kept : (v : ℕ) → v < THREADS → IsTrue (is_started (thread_at m v).life) → IsTrue (is_started (thread_at s v).life)
     started-kept v few h =
         let before = (law.rel.threads v few).word.life in
-        let after = (words-part f m e law v few s leaves).life in
+        let after = (words-part f m e law v few s left).life in
         ap is_started (sym after) ∙ by (same_site e.site (Site.thread v)) refl (ap is_started before ∙ h)
       where
         by : (b : Bool) → same_site e.site (Site.thread v) ≡ b → is_started (word f v).life ≡ true → is_started (word later v).life ≡ true
@@ -198,28 +250,38 @@ module _ (f : Fine) (m : State) (e : FineStep) (law : Lawful f m e) where
 
     -- An own part that lies elsewhere.
 
-    on-here : has_steps p.todo ≡ true → is_over p.context ≡ false → runs_on p.context.thread p ≡ true
+    on-here : runs p ≡ true → is_over p.context ≡ false → runs_on p.context.thread p ≡ true
     on-here steps on = λ i. (steps i && eq-eqb p.context.thread p.context.thread refl i) && not (on i)
 
     -- the maker of an event of its thread runs that one
-    mine-lies : (v : ℕ) → p.context.thread ≡ v → has_steps p.todo ≡ true → is_over p.context ≡ false → runs_on v p ≡ true
+    mine-lies : (v : ℕ) → p.context.thread ≡ v → runs p ≡ true → is_over p.context ≡ false → runs_on v p ≡ true
     mine-lies v same steps on = subst (λ n. runs_on n p ≡ true) same (on-here steps on)
 
-    module _ (v : ℕ) (few : v < THREADS) (c : Context) (of : IsOf m c) (at : c.thread ≡ v) (on : is_over c ≡ false)
-        (alone : runs_on v p ≡ true → ⊥) (unparked : (d : Context) (told : Told) → p.todo ≡ [] → e.moved ≡ Exchange.thread d (Some told) → d.thread ≡ v → ⊥) where
-      pub apart-from : Apart s leaves v
-      apart-from = by s leaves
+    module _ (v : ℕ) (few : v < THREADS) (c : Context) (of : IsOf f m c) (at : c.thread ≡ v) (on : is_over c ≡ false)
+        (alone : runs_on v p ≡ true → ⊥) (untaken : (d : Context) (told : Option Told) → p.todo ≡ [] → e.moved ≡ Exchange.thread d told → d.thread ≡ v → ⊥) where
+      pub apart-from : CutsNot s left v → Apart s left v
+      apart-from free = by s left free
         where
-          by : (z : State) (l : Leaves f m e z) → Apart z l v
-          by _ (nothing u said) = tt
-          by _ (event q rest todo x h shown is) =
-              (λ same. alone (mine-lies v same (ap has_steps h.at) (shown-on h)), subst (λ n. starts_other n q) at (starts-apart c of on q rest todo h))
-          by _ (resumes d told rest idle moved said) = λ same. unparked d told idle moved same
-          by _ (passes who x rest todo h said) = λ same.
+          by : (z : State) (l : Leaves f m e z) → CutsNot z l v → Apart z l v
+          by _ (nothing u said) free = tt
+          by _ (event q rest todo x h shown is) free =
+              (λ same. alone (mine-lies v same (shows-runs h) (shown-on h)), subst (λ n. starts_other n q) at (starts-apart c of on q rest todo h (uncut-shown q shown)))
+          by _ (resumes d told rest idle moved said) free = λ same. untaken d (Some told) idle moved same
+          by _ (passes who x rest todo h said) free = λ same.
               let fits = (subst (Fits f.image p.context) h.at (law.rel.processors e.cpu law.by.named).list.fits).0 in
-              alone (mine-lies v same (ap has_steps h.at) (passes-on f.image p.context who todo fits))
-          by _ (drops from x rest todo h said) = λ same.
+              alone (mine-lies v same (visit-runs h (λ hand. hand)) (passes-on f.image p.context who todo fits))
+          by _ (drops from x rest todo h said) free = λ same.
               let fits = subst (Fits f.image p.context) h.at (law.rel.processors e.cpu law.by.named).list.fits in
-              alone (mine-lies v same (ap has_steps h.at) (drops-on f.image p.context todo fits))
-          by _ (cleans who x rest todo h said) = tt
-          by _ (recycles x rest todo at l said chosen) = tt
+              alone (mine-lies v same (visit-runs h (λ hand. hand)) (drops-on f.image p.context todo fits))
+          by _ (cleans who x rest todo h said) free = tt
+          by _ (recycles x rest todo at l said chosen) free = tt
+          by _ (beside t x q how chosen started) free = free
+
+      -- it stays that of the machine's thread, also where a step cuts that one
+      pub elsewhere-of : IsOf later s c
+      elsewhere-of = by (cuts-or-not v)
+        where
+          by : CutsNot s left v ⊎ CutNow f m e v s → IsOf later s c
+          by (inl free) =
+              of-stays c of (subst (λ n. Apart s left n) (sym at) (apart-from free)) (subst (λ n. cutters later n ≡ cutters f n) (sym at) (cutters-same v few free untaken))
+          by (inr is) = of-cut f m e law c of s (subst (λ n. CutNow f m e n s) (sym at) is)

@@ -1,6 +1,8 @@
 -- A thread's own part lies in one place at most, so one that a processor runs, or that is still to be added, isn't parked; and whom a wake
 -- on a list tells something, the machine has told something, and the scheduler hasn't yet.
 use Rattle.um_refinement.proofs.Words.{◌≡◌, inl, inr, ℕ, zero, suc, ◌+◌, ◌<◌, ◌≤◌, Bool, true, false, List, [], ◌∷◌, Option, Some, None, refl, sym, ap, ◌∙◌, subst, arith, eq-eqb, ◌==◌, is_some, slice_index_or, slice_set, if◌then◌else◌, eqb-false, eqb-true, false≢true, Told, THREADS, State, thread_at, Context, Todo, Todos, parked_at, told_at, Fine, one_if, scheduler, Adds, adders, counted, is_wake, of_thread, wake_of, Rel, first_told, runs_on, told_by}
+use Rattle.um_fine.specs.Joins.{asleep_at}
+use Rattle.um_refinement.specs.Fine.{joins}
 use Rattle.um_refinement.proofs.DomainFacts.{two-parts}
 use Rattle.um_refinement.proofs.MemorySteps.{part-total}
 use Rattle.um_refinement.proofs.Sums.{one-none}
@@ -55,6 +57,19 @@ module _ (f : Fine) (m : State) (rel : Rel f m) (t : ℕ) (few : t < THREADS) wh
       let sum = part-total part f.cpus k l in
       let once = rel.contexts.once t few in
       one-none (is_some (parked_at (scheduler f) t)) (omega (arith, sum, some, once))
+
+  -- nor asleep
+  pub lies-unslept : (k : ℕ) → k < f.cpus → 0 < part k → is_some (asleep_at (joins f) t) ≡ false
+  lies-unslept k l some =
+      let sum = part-total part f.cpus k l in
+      let once = rel.contexts.once t few in
+      one-none (is_some (asleep_at (joins f) t)) (omega (arith, sum, some, once))
+
+  pub parked-unslept : is_some (parked_at (scheduler f) t) ≡ true → is_some (asleep_at (joins f) t) ≡ false
+  parked-unslept there =
+      let one : one_if (is_some (parked_at (scheduler f) t)) ≡ 1 = ap one_if there in
+      let once = rel.contexts.once t few in
+      one-none (is_some (asleep_at (joins f) t)) (omega (arith, one, once))
 
   -- not with two
   pub lies-once : (k j : ℕ) → k < f.cpus → j < f.cpus → (k ≡ j → ⊥) → 0 < part k → 0 < part j → ⊥

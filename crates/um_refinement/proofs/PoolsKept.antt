@@ -1,13 +1,13 @@
 -- The pools of both machines stay the same at every event that doesn't write them, and are written alike by buffers, where the relation
 -- holds; memory stays the same at the events that have places of their own.
-use Rattle.um_refinement.proofs.Words.{◌≡◌, ℕ, Bool, true, false, cond, List, Option, Some, None, refl, sym, ap, ◌∙◌, Act, Event, Image, Pending, Thread, Steps, State, thread_at, FineAct, More, act_in, charge_in, Heap, Bytes, memory_after, Exchange, FineStep, Site, SiteState, s_next, same_site, site_after, Todos, Processor, allows, more_of, moves, says_step, shows, same-itself, Fine, bytes, bytes_state, heap, heap_state, MemoryIs, Rel, heap_after, paid}
+use Rattle.um_refinement.proofs.Words.{◌≡◌, ℕ, Bool, true, false, cond, List, Option, Some, None, refl, sym, ap, ◌∙◌, Act, Event, Image, Pending, Thread, Steps, State, thread_at, FineAct, More, act_in, charge_in, Heap, Bytes, memory_after, Exchange, FineStep, Site, SiteState, s_next, same_site, site_after, Todos, Processor, allows, more_of, says_step, shows, same-itself, Fine, bytes, bytes_state, heap, heap_state, MemoryIs, Rel, heap_after, paid}
 use Rattle.um_base.specs.declared.names.Access.TheVariants as Access
 use Rattle.um_machine.specs.Table as T
 use Rattle.um_refinement.proofs.Erased.{stepped}
 use Rattle.um_refinement.proofs.HeapSteps.{heap-sort}
 use Rattle.um_refinement.proofs.MemoryKept.{Untouched, after-untouched}
 use Rattle.um_refinement.proofs.MemorySteps.{memory-sort}
-use Rattle.um_refinement.proofs.Offered.{Shows, act-is, own-part, site-is, either-act}
+use Rattle.um_refinement.proofs.Offered.{Shows, act-is, moved-made, own-same, site-is, either-act}
 use Rattle.um_refinement.proofs.WordsKept.{IsShown}
 use Rattle.um_refinement.proofs.Writes.{Makes, Part, pools, read-same, reads-keeping}
 
@@ -17,7 +17,7 @@ NoPools pools = false
 NoPools part = true
 
 pub pools-same : (m : State) (t x : ℕ) (q : Pending) (rest : Steps) → Makes NoPools q → (T.after m t x q rest).pools ≡ m.pools
-pools-same m = read-same NoPools (λ s. s.pools) m (reads-keeping NoPools (λ s. s.pools) m.pools (λ s threads. refl) (λ s objects. refl) (λ s bytes. (refl, refl)) (λ may s u x there. refl) (λ may s left. absurd may) (λ may s d ps. refl))
+pools-same m = read-same NoPools (λ s. s.pools) m (reads-keeping NoPools (λ s. s.pools) m.pools (λ s threads. refl) (λ s objects. refl) (λ s bytes. (refl, refl)) (λ may s u x there. refl) (λ may s left. absurd may) (λ may s d ps. refl) (λ may s joins futexes. refl) (λ may s now armed. refl))
 
 -- The fine machine.
 
@@ -51,6 +51,14 @@ module _ (f : Fine) (m : State) (rel : Rel f m) (e : FineStep) (event : Event) (
       ap (λ (s : SiteState). bytes_state (site_after f.image s e.act e.moved)) (memory-sort (f.sites Site.memory) (rel.sorts Site.memory)).1
       ∙ ap (λ act. memory_after f.image (bytes f) (act_in act) e.moved) said
 
+  -- an event on memory, or elsewhere
+  pub bytes-put : e.site ≡ Site.memory → bytes (stepped f.image f.cpus f.processors f.sites e) ≡ memory_after f.image (bytes f) event.act e.moved
+  bytes-put site =
+      ap (λ c. bytes_state (cond c (s_next f.image (f.sites Site.memory) e) (f.sites Site.memory))) (ap (λ i. same_site i Site.memory) site ∙ same-itself Site.memory) ∙ bytes-is
+
+  pub bytes-else : same_site e.site Site.memory ≡ false → bytes (stepped f.image f.cpus f.processors f.sites e) ≡ bytes f
+  bytes-else off = ap (λ c. bytes_state (cond c (s_next f.image (f.sites Site.memory) e) (f.sites Site.memory))) off
+
   -- an event that has a place of its own: a resumed call, a visit, the end of a cleaning
   pub memory-beside : (q : Pending) (rest : Steps) (t x : ℕ) → memory_after f.image (bytes f) event.act e.moved ≡ bytes f → Untouched q
       → MemoryIs (stepped f.image f.cpus f.processors f.sites e) (T.after m t x q rest)
@@ -59,6 +67,7 @@ module _ (f : Fine) (m : State) (rel : Rel f m) (e : FineStep) (event : Event) (
       record {
         memory = ap (λ (b : Bytes). b.memory) now ∙ (rel.memory.memory ∙ sym (ap (λ (b : Bytes). b.memory) below));
         stacks = ap (λ (b : Bytes). b.stacks) now ∙ (rel.memory.stacks ∙ sym (ap (λ (b : Bytes). b.stacks) below));
+        futexes = ap (λ (b : Bytes). b.futexes) now ∙ (rel.memory.futexes ∙ sym (ap (λ (b : Bytes). b.futexes) below));
       }
     where
       now : bytes (stepped f.image f.cpus f.processors f.sites e) ≡ bytes f
@@ -87,7 +96,7 @@ module _ {f : Fine} {m : State} {k : ℕ} {e : FineStep} {rest : Steps} {todo : 
   unbuffer-pools size x h =
       let c = (f.processors k).context in
       let moved : e.moved ≡ Exchange.charge (T.cost_of c.pool size) =
-      sym (ap (λ (s : FineStep). s.moved) h.may.makes) ∙ ap (λ (z : Todos). moves f.image (f.processors k) z e.moved) h.at in
-      let pool : c.pool ≡ (thread_at m c.thread).pool = ap (λ (z : Thread). z.pool) (own-part h).own in
+      moved-made h in
+      let pool : c.pool ≡ (thread_at m c.thread).pool = ap (λ (z : Thread). z.pool) (own-same h) in
       ap (λ (z : Heap). z.pools) (heap-put f m h.rel e _ More.Nothing (act-is h) (site-is h))
       ∙ ((λ i. T.paid_back (charge_in (moved i)) (h.rel.heap.pools i)) ∙ ap (λ o. T.paid_back (T.cost_of o size) m.pools) pool)

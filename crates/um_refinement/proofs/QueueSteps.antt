@@ -1,7 +1,9 @@
 -- The steps that are left of a call use and mark as message queues only what they know to be one: the object of an initialised queue that was
 -- checked, or one that the call has just filled. Semaphores and mutexes are made of other objects, and so are names given. The steps of each
 -- line are so.
-use Rattle.um_refinement.proofs.Words.{◌≡◌, ◌≢◌, ℕ, ◌*◌, Bool, true, false, [], ◌∷◌, ◌++◌, Option, Some, None, refl, sym, ap, ◌∙◌, ◌==◌, ◌&&◌, ◌||◌, ℤ, if◌then◌else◌, nat_lt, unwrap_or, false≢true, Cause, Ask, Image, Instr, Options, Addr, Errno, Kind, Mode, ThreadIx, Want, is_within, own_row, row_at, thread_of_addr, thread_of_row, Amount, Pending, Thread, has_kind, Steps, answer_error, answer_zero, buffered, creates, privileged, steps_of, to_addr, work, value_of, IsSited, row_kind}
+use Rattle.um_base.specs.declared.names.Timeout.{Timeout}
+use Rattle.um_machine.specs.Order.{aborts, answer_void, arms}
+use Rattle.um_refinement.proofs.Words.{◌≡◌, ◌≢◌, ℕ, ◌*◌, Bool, true, false, [], ◌∷◌, ◌++◌, Option, Some, None, refl, sym, ap, ◌∙◌, ◌==◌, ◌&&◌, ◌||◌, ℤ, if◌then◌else◌, nat_lt, unwrap_or, false≢true, Cause, Ask, Image, Instr, Options, Addr, Errno, Kind, Mode, ThreadIx, Want, is_within, own_row, row_at, thread_of_addr, thread_of_row, Amount, Pending, Thread, has_kind, Steps, answer_error, answer_zero, buffered, creates, privileged, steps_of, to_addr, to_thread, work, value_of, IsSited, row_kind}
 use Rattle.std.specs.Option.{option_and_then}
 
 -- the row of a queue that a check has found to be initialised
@@ -72,6 +74,16 @@ module _ (image : Image) where
   queued-sem a x c l e other true = tt
   queued-sem a x c l e other false = (x, e, other, (x, e, (λ same. absurd (other same)), tt))
 
+  -- a deadline is armed first, or none
+  queued-arms : (known : Option ℕ) (timeout : Timeout) (steps : Steps) → Queued image known steps → Queued image known (arms timeout steps)
+  queued-arms known Timeout.NoWait steps h = h
+  queued-arms known (Timeout.Ticks ticks) steps h = h
+  queued-arms known Timeout.Forever steps h = h
+
+  queued-aborts : (known : Option ℕ) (t who : ℕ) → Queued image known (aborts t who)
+  queued-aborts known t who =
+      elim (who == t) as (λ b. Queued image known (Pending.Abort (to_thread who) ∷ (if b then Pending.Killed ∷ [] else answer_void))) [ true ↦ tt | false ↦ tt ]
+
   queued-inherit : (inherits : Bool) (who : ThreadIx) (rest : Steps) → Queued image None rest → Queued image None ((if inherits then Pending.Inherit who ∷ [] else []) ++ rest)
   queued-inherit true who rest h = h
   queued-inherit false who rest h = h
@@ -137,7 +149,18 @@ module _ (image : Image) (known : Option ℕ) where
         let most = value_of me.registers entries in queued-stack (value_of me.registers object) most (unwrap_or me.pool 0) (is_within 1 64 most)
     queued-steps (Instr.PipeInit object size) =
         let most = value_of me.registers size in queued-pipe (value_of me.registers object) most (unwrap_or me.pool 0) (is_within 1 256 most)
-    queued-steps (Instr.MsgqPut object addr timeout) = λ x e k. ((x, e, refl), (x, e, tt, tt))
-    queued-steps (Instr.MsgqGet object addr timeout) = λ x e k. ((x, e, refl), (x, e, tt, tt))
+    queued-steps (Instr.MsgqPut object addr timeout) = λ x e k. ((x, e, refl), queued-arms image (Some x) timeout _ (x, e, tt, tt))
+    queued-steps (Instr.MsgqGet object addr timeout) = λ x e k. ((x, e, refl), queued-arms image (Some x) timeout _ (x, e, tt, tt))
     queued-steps (Instr.MsgqPeek object addr) = λ x e k. ((x, e, refl), (x, e, tt, tt))
+    queued-steps (Instr.SemTake object timeout) = λ x e k. queued-arms image None timeout _ (x, e, tt, tt)
+    queued-steps (Instr.MutexLock object timeout) = λ x e k. queued-arms image None timeout _ (x, e, tt, tt)
+    queued-steps (Instr.StackPop object addr timeout) = λ x e k. queued-arms image None timeout _ (x, e, tt, tt)
+    queued-steps (Instr.PipeWrite object addr length timeout) = λ x e k. queued-arms image None timeout _ (x, e, tt, tt)
+    queued-steps (Instr.PipeRead object addr length timeout) = λ x e k. queued-arms image None timeout _ (x, e, tt, tt)
+    queued-steps (Instr.Abort thread) = λ x e k. queued-aborts image None t _
+    queued-steps (Instr.Join thread timeout) = λ x e k. queued-arms image None timeout _ tt
+    queued-steps (Instr.Suspend thread) = λ x e k. tt
+    queued-steps (Instr.Continue thread) = λ x e k. tt
+    queued-steps (Instr.FutexWait addr value timeout) = queued-arms image known timeout _ tt
+    queued-steps (Instr.FutexWake addr all) = tt
     queued-steps instr = λ x e k. (x, e, tt, tt)

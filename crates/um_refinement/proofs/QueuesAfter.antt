@@ -3,6 +3,7 @@
 use Rattle.um_refinement.proofs.Words.{◌≡◌, ◌⊎◌, inl, inr, ℕ, ◌+◌, Bool, true, false, List, [], ◌∷◌, Option, Some, None, refl, sym, ap, ◌∙◌, subst, ◌&&◌, not, if◌then◌else◌, nat_lt, slice_index_or, slice_set, Answer, Ask, Waiter, Image, THREADS, Addr, Errno, Kind, Policy, Reply, Want, row_at, Contents, Amount, Pending, Refusal, Thread, has_kind, verdict, Steps, steps_of, fatal_steps, Offers, begins, exits, goes, skips_drops, skips_inherit, queue, State, is_user, object_at, pair_at, thread_at, Call, core_of, IsSited, row_kind, IsKnown, passed, row_is, Change, Next, Way, gone, steps_by, checked_way, told_way, Ignores, all_other, each-after, next_of, HoldsOfWays, way-left, Mode, fills, call_of, kind_is, row_has, work_change, work_way, IsAsBefore, tends, changed-same}
 use Rattle.um_machine.specs.Objects.{is_live, verdict_at}
 use Rattle.um_machine.specs.Table as T
+use Rattle.um_machine.specs.Run.{leaves, stops}
 use Rattle.um_refinement.proofs.CallsProper.{passed-held}
 use Rattle.um_refinement.proofs.QueueSteps.{Queued, queue-kind, queue_checked, queued-steps}
 use Rattle.um_refinement.proofs.StepsLeft.{fatal-left}
@@ -39,7 +40,7 @@ Fills m t y (Pending.Work a (Ask.MsgqInit size most pool)) = (T.row_of m a ≡ y
 Fills m t y q = ⊥
 
 ignores : Ignores call_of all_other
-ignores = record { due = λ h me due. refl; told = λ h me told. refl; domain = λ h me domain. refl; doomed = λ h me. refl }
+ignores = record { due = λ h me due. refl; told = λ h me told. refl; domain = λ h me domain. refl; doomed = λ h me. refl; flagged = λ h me aborted suspended. refl }
 
 -- What has to be known of a call that goes on so.
 
@@ -61,7 +62,7 @@ module _ (image : Image) (IsOne : ℕ → Type 0) where
   Fits c left next = Behind c left
 
   ways : (known : Option ℕ) → HoldsOfWays (Queued image known)
-  ways known = record { call = (λ a left h. h, λ left h. h, λ a left h. h); replies = λ reply. tt; fails = λ reason cause. (tt, λ size. tt, λ a. tt) }
+  ways known = record { call = (λ a left h. h, λ left h. h, λ a left h. h); runs_to = λ a before deadline left h. h; replies = λ reply. tt; fails = λ reason cause. (tt, λ size. tt, λ a. tt) }
 
   by-way : (c : Call) (left : Steps) (way : Way) → Behind c left → Behind c (steps_by left way)
   by-way c left way h = record { known = h.known; holds = h.holds; steps = way-left (Queued image h.known) (ways h.known) left way h.steps }
@@ -71,6 +72,8 @@ module _ (image : Image) (IsOne : ℕ → Type 0) where
   refused-queued Mode.User Refusal.FailsUser e left = tt
   refused-queued Mode.Supervisor Refusal.FailsUser e left = tt
   refused-queued mode (Refusal.Answers reply) e left = tt
+  refused-queued mode (Refusal.AnswersUninit reply) Errno.EINVAL left = tt
+  refused-queued mode (Refusal.AnswersUninit reply) e left = tt
 
   fatal-queued : (i : Image) (t : ℕ) (me : Thread) (reason : ℕ) (policy : Policy) → Queued image None (fatal_steps i t me reason policy)
   fatal-queued i t me reason policy = fatal-left (Queued image None) i t me tt tt reason policy
@@ -82,7 +85,7 @@ module _ (image : Image) (IsOne : ℕ → Type 0) where
   goes-so : (left : Steps) (u : State) (t : ℕ) (change : Change) (way : Way) (me : Thread) → Behind (call_of me) (steps_by left way)
       → IsQueued image IsOne (call_of (gone left u t (Next.on change way) me))
   goes-so left u t change way me h =
-      record { known = h.known; holds = subst (λ (held : List Bool). Holds image IsOne held h.known) (sym (changed-same (λ me. me.checked) (λ me registers reply buffer. refl) change me)) h.holds; steps = h.steps }
+      record { known = h.known; holds = subst (λ (held : List Bool). Holds image IsOne held h.known) (sym (changed-same (λ me. me.checked) (λ me registers reply buffer until. refl) change me)) h.holds; steps = h.steps }
 
   gone-queued : IsSited image → (left : Steps) (u : State) (t : ℕ) (next : Next) (me : Thread) → u.image ≡ image → Fits (call_of me) left next → IsQueued image IsOne (call_of me)
       → IsQueued image IsOne (call_of (gone left u t next me))
@@ -112,6 +115,12 @@ module _ (m : State) (t x : ℕ) (IsOne : ℕ → Type 0) (all : AreQueued m.ima
   abbrev pub Stands : Pending → Steps → Type 0
   Stands Pending.Begin rest = Unit {0}
   Stands Pending.Exit rest = Unit {0}
+  Stands Pending.Killed rest = Unit {0}
+  Stands Pending.Left rest = Unit {0}
+  Stands Pending.Tick rest = Unit {0}
+  Stands (Pending.TimeOut who) rest = Unit {0}
+  Stands Pending.Expire rest = Unit {0}
+  Stands (Pending.Cut who) rest = Unit {0}
   Stands (Pending.CleanPair who) rest = Unit {0}
   Stands Pending.Recycle rest = Unit {0}
   Stands q rest = IsQueued m.image IsOne (record (call_of (thread_at m t)) { pending = q ∷ rest })
@@ -119,6 +128,12 @@ module _ (m : State) (t x : ℕ) (IsOne : ℕ → Type 0) (all : AreQueued m.ima
   stands : (q : Pending) (rest : Steps) → IsQueued m.image IsOne (record (call_of me) { pending = q ∷ rest }) → Stands q rest
   stands Pending.Begin rest h = tt
   stands Pending.Exit rest h = tt
+  stands Pending.Killed rest h = tt
+  stands Pending.Left rest h = tt
+  stands Pending.Tick rest h = tt
+  stands (Pending.TimeOut who) rest h = tt
+  stands Pending.Expire rest h = tt
+  stands (Pending.Cut who) rest h = tt
   stands (Pending.CleanPair who) rest h = tt
   stands Pending.Recycle rest h = tt
   stands q rest h = h
@@ -134,6 +149,12 @@ module _ (m : State) (t x : ℕ) (IsOne : ℕ → Type 0) (all : AreQueued m.ima
       let was = at (Pending.Drops from ∷ q ∷ rest) e in stands q rest (record { known = was.known; holds = was.holds; steps = was.steps })
   offered-queued _ _ (begins e lives doomed there) = tt
   offered-queued _ _ (exits e lives doomed there) = tt
+  offered-queued _ _ (stops e lives must) = tt
+  offered-queued _ _ (leaves ending) = tt
+  offered-queued Pending.Tick _ (tends is started) = tt
+  offered-queued (Pending.TimeOut who) _ (tends is started) = tt
+  offered-queued Pending.Expire _ (tends is started) = tt
+  offered-queued (Pending.Cut who) _ (tends is started) = tt
   offered-queued (Pending.CleanPair who) _ (tends is started) = tt
   offered-queued Pending.Recycle _ (tends is started) = tt
   offered-queued q _ (tends is started) = cc
@@ -182,6 +203,12 @@ module _ (m : State) (t x : ℕ) (IsOne : ℕ → Type 0) (all : AreQueued m.ima
     fits : (q : Pending) (rest : Steps) → Stands q rest → Made q → IsFit (call_of me) rest q
     fits Pending.Begin rest h filled = tt
     fits Pending.Exit rest h filled = tt
+    fits Pending.Killed rest h filled = tt
+    fits Pending.Left rest h filled = tt
+    fits Pending.Tick rest h filled = tt
+    fits (Pending.TimeOut who) rest h filled = tt
+    fits Pending.Expire rest h filled = tt
+    fits (Pending.Cut who) rest h filled = tt
     fits (Pending.EnterUser script) rest h filled = tt
     fits (Pending.Fatal reason cause) rest h filled = tt
     fits (Pending.Dooms from) rest h filled = tt
@@ -209,11 +236,13 @@ module _ (m : State) (t x : ℕ) (IsOne : ℕ → Type 0) (all : AreQueued m.ima
         let way = work_way me.mode (Ask.MsgqInit size most pool) answer in
         goes-so m.image IsOne rest u t (work_change answer (T.work_of m t a (Ask.MsgqInit size most pool)).taken) way th
         (subst (λ (c : Call). Behind m.image IsOne c (steps_by rest way)) (sym same) h)
+    on (Pending.Cut who) rest u th image same h was = was
     on q rest u th image same h was =
         let next = next_of m t x q in
         gone-queued m.image IsOne known.reached.sited rest u t next th image (subst (λ (c : Call). Fits m.image IsOne c rest next) (sym same) h) was
 
     pub queued-after : (q : Pending) (rest : Steps) → Stands q rest → ((y : ℕ) → row_kind m.image y ≡ Kind.Msgq → Fills m t y q → Holds m.image IsOne me.checked (Some y)) → AreQueued m.image IsOne (T.after m t x q rest)
     queued-after q rest h filled =
-        each-after call_of (IsQueued m.image IsOne) ignores m t x q rest (λ who script stack priority mode. record { known = None; holds = tt; steps = tt }) all
+        each-after call_of (IsQueued m.image IsOne) ignores m t x q rest (λ who script stack priority mode. record { known = None; holds = tt; steps = tt })
+        (λ th was. record { known = None; holds = tt; steps = tt }) all
         (λ u th image same was. on q rest u th image same (fits q rest h filled) was)

@@ -1,13 +1,15 @@
 -- What a step of the access-matrix machine leaves of message queues: each one that it doesn't free keeps the size of its messages; and which
 -- objects it marks as initialised.
-use Rattle.um_refinement.proofs.Words.{◌≡◌, ◌≢◌, ℕ, zero, suc, Bool, true, false, List, [], ◌∷◌, ◌++◌, length, Option, Some, None, refl, sym, ap, ◌∙◌, ◌==◌, if◌then◌else◌, is_some, nat_lt, slice_index_or, slice_set, false≢true, true≢false, eqb-false, eqb-true, get_or-set_other, Ask, Waiter, Errno, own_row, Contents, Object, Pending, Steps, to_thread, Acted, acted, queue, State, object_at, thread_at, vacant, cell_of, ObjectCell, Edit, Effect, effect, bytes-leave, OfEach, effects_of, woken-by, filter, answers, blocks, in_order, is_getter, is_putter, msgq_get, msgq_peek, msgq_put, msgq_take}
+use Rattle.um_refinement.proofs.Words.{with_object, ◌≡◌, ◌≢◌, ℕ, zero, suc, Bool, true, false, List, [], ◌∷◌, ◌++◌, length, Option, Some, None, refl, sym, ap, ◌∙◌, ◌==◌, if◌then◌else◌, is_some, nat_lt, slice_index_or, slice_set, false≢true, true≢false, eqb-false, eqb-true, get_or-set_other, Ask, Waiter, Errno, own_row, Contents, Object, Pending, Steps, to_thread, Acted, acted, queue, State, object_at, thread_at, vacant, cell_of, ObjectCell, Edit, Effect, effect, bytes-leave, OfEach, effects_of, woken-by, filter, answers, blocks, in_order, is_getter, is_putter, msgq_get, msgq_peek, msgq_put, msgq_take}
 use Rattle.um_base.specs.declared.names.Reply.TheVariants as Reply
 use Rattle.um_base.specs.declared.names.Timeout.{Timeout}
 use Rattle.um_machine.specs.Contents.{Queue}
 use Rattle.um_machine.specs.Services as Services
+use Rattle.um_machine.specs.State.{waiters_in, with_waiters}
 use Rattle.um_machine.specs.Table as T
+use Rattle.um_machine.specs.Time.{told_late}
 use Rattle.um_refinement.proofs.ContentsKept.{beside-kept, cell-beside, clean-kept, work-objects}
-use Rattle.um_refinement.proofs.ObjectsKept.{set-kept}
+use Rattle.um_refinement.proofs.ObjectsKept.{set-kept, waiters-kept}
 use Rattle.um_refinement.proofs.Writes.{each-of, shared-after, reserved-objects}
 use Rattle.um_machine.specs.Writes.{edited}
 
@@ -31,6 +33,7 @@ renews ask = false
 block-size : (size most : ℕ) (messages : List (List ℕ)) (ws : List Waiter) (w : Waiter) (timeout : Timeout) (e : Errno)
     → size_of (blocks (queue size most messages) ws w timeout e).contents ≡ Some size
 block-size size most messages ws w Timeout.NoWait e = refl
+block-size size most messages ws w (Timeout.Ticks ticks) e = refl
 block-size size most messages ws w Timeout.Forever e = refl
 
 put-size : (size most : ℕ) (messages : List (List ℕ)) (ws : List Waiter) (w : Waiter) (message : List ℕ) (timeout : Timeout) (getters : List Waiter)
@@ -79,6 +82,7 @@ Spares m n y (Pending.Work a ask) = T.row_of m a ≡ y → renews ask ≡ false
 Spares m n y (Pending.Named who) = own_row m.image who.0 ≢ y
 Spares m n y (Pending.Reserve kind) = (k : ℕ) → n ≡ suc k → n ≢ y
 Spares m n y Pending.Recycle = n ≢ y
+Spares m n y Pending.Expire = n ≢ y
 Spares m n y q = Unit {0}
 
 module _ (m : State) (y t : ℕ) where
@@ -106,15 +110,22 @@ module _ (m : State) (y t : ℕ) where
           let at = eqb-true (T.row_of m a) y k in
           set-kept Size m.objects (T.row_of m a) y o
           (queue-acted (object_at m (T.row_of m a)).contents (object_at m (T.row_of m a)).waiters
-          (record { thread = to_thread t; priority = (thread_at m t).priority; ask = ask; bytes = T.bytes_given (thread_at m t).buffer ask }) (spares at)
+          (record { thread = to_thread t; priority = (thread_at m t).priority; ask = ask; bytes = T.bytes_given (thread_at m t).buffer ask; until = (thread_at m t).until }) (spares at)
           (ap (λ r. is_some (Size (object_at m r))) at ∙ h))
   size-kept n (Pending.Named who) rest spares h = other (own_row m.image who.0) _ spares
   size-kept zero (Pending.Reserve kind) rest spares h = refl
   size-kept (suc n) (Pending.Reserve kind) rest spares h = ap (λ (os : List Object). Size (slice_index_or os y vacant)) (reserved-objects m t n kind rest) ∙ other (suc n) _ (spares n refl)
   size-kept n (Pending.CleanPair who) rest spares h =
-      ap (λ (c : ObjectCell). size_of c.contents) (clean-kept cell_of cell-beside (λ o by. refl) m y t n who rest)
+      ap (λ (c : ObjectCell). size_of c.contents) (clean-kept (cell_of []) (cell-beside []) (λ o by. refl) m y t n who rest)
   size-kept n Pending.Recycle rest spares h = other n vacant spares
-  size-kept n q rest spares h = ap (λ (c : ObjectCell). size_of c.contents) (beside-kept cell_of cell-beside m y t n q rest refl)
+  size-kept n Pending.Expire rest spares h =
+      let o = object_at m n in
+      let out = Services.runs_out o.waiters (in_order o.waiters) in
+      woken-by Same (λ s u told k. k) out.2 (with_object m n (edited (Edit.runs_out out.0 out.1) o)) (other n _ spares)
+  size-kept n (Pending.TimeOut who) rest spares h =
+      woken-by Same (λ s u told k. k) (told_late who n) (with_waiters m n (Services.without who.0 (waiters_in m n))) (waiters-kept Size (λ o ws. refl) m n y _)
+  size-kept n (Pending.Cut who) rest spares h = waiters-kept Size (λ o ws. refl) m n y (Services.without who.0 (waiters_in m n))
+  size-kept n q rest spares h = ap (λ (c : ObjectCell). size_of c.contents) (beside-kept (cell_of []) (cell-beside []) m y t n q rest refl)
 
   -- An object that is marked was marked before, unless the step marks it.
 
@@ -159,6 +170,7 @@ module _ (m : State) (y t : ℕ) where
   mark-effect (Effect.object x Edit.vacates) s h k = λ i. k (written s.objects x vacant (λ h. absurd (false≢true h)) i)
   mark-effect (Effect.object x edit) s h k = λ i. k (written s.objects x (edited edit (object_at s x)) (λ h. h) i)
   mark-effect (Effect.bytes a bs) s h k = λ i. k (sym (bytes-leave (λ (z : State). (object_at z y).init) (λ z bytes. refl) (λ z bytes. refl) s a bs) ∙ i)
+  mark-effect (Effect.waiters c ws) s h k = λ i. k (sym (waiters-kept (λ (o : Object). o.init) (λ o ws. refl) s c y ws) ∙ i)
   mark-effect e s h k = k
 
   marks-none : (n : ℕ) (q : Pending) → (Marks q → ⊥) → OfEach MarksNone (effects_of m t n q)

@@ -3,6 +3,7 @@
 use Rattle.um_refinement.proofs.Words.{◌≡◌, ◌≢◌, ◌⊎◌, inl, inr, ℕ, zero, suc, ◌+◌, ◌<◌, ◌≤◌, Bool, true, false, List, [], ◌∷◌, length, Option, Some, None, refl, sym, ap, ◌∙◌, subst, arith, ◌==◌, ◌||◌, IsTrue, is_some, not, slice_get, slice_index_or, slice_set, unwrap_or, list_all, list_any, and_parts, eqb-false, eqb-true, false≢true, true≢false, get_or-set_same, Answer, Event, Ask, Waiter, Boot, Image, ObjectDef, Addr, Kind, Reply, IsLawful, is_lawful_boot, object_passes, Contents, Object, Status, Pending, Steps, MayChoose, Offers, Runs, objects_from, opening, queue, State, object_at, thread_at, vacant, Call, call_is, core_of, status_is, kind_in, row_kind, IsKnown, below_rows, row_is, IsDescribed, FineAct, More, Setup, Mpu, is_setup_of, is_stack, is_thread, boots_row, is_set_up, setup_contents, fills, is_standing, boot_parts, image_move, step_move}
 use Rattle.um_machine.specs.Objects as Plain
 use Rattle.um_machine.specs.Table as T
+use Rattle.um_machine.specs.Time.{has_run_out}
 use Rattle.um_invariants.proofs.StepMoves.{unchecked}
 use Rattle.um_refinement.proofs.ContentsKept.{work-objects}
 use Rattle.um_refinement.proofs.Erased.{IsReachable, reach-on}
@@ -62,6 +63,11 @@ not-held : (b : Bool) → IsTrue (not b) → b ≡ false
 not-held true h = absurd (false≢true h)
 not-held false h = refl
 
+-- a queue is no timer
+pub no-timer : (now : ℕ) (c : Contents) → IsQueue c → has_run_out now c ≡ true → ⊥
+no-timer now (Contents.Running d) queue runs = false≢true queue
+no-timer now c queue runs = false≢true runs
+
 -- the step takes the row that it chooses
 abbrev pub Takes : ℕ → Pending → Type 0
 Takes n (Pending.Reserve kind) = (k : ℕ) × (n ≡ suc k)
@@ -115,20 +121,21 @@ module _ (m : State) (sound : IsSound m) (queues : AreQueues m) (t n : ℕ) wher
   kept-apart q y chosen kept takes = absurd takes
 
   -- a step writes no other contents at a row of queues
-  spares : (q : Pending) (rest : Steps) (y : ℕ) → Offers m t q rest → row_kind m.image y ≡ Kind.Msgq → (Takes n q → n ≢ y) → Spares m n y q
-  spares (Pending.Work a ask) rest y offers k apart =
+  spares : (q : Pending) (rest : Steps) (y : ℕ) → Offers m t q rest → MayChoose m t n q → Is y → row_kind m.image y ≡ Kind.Msgq → (Takes n q → n ≢ y) → Spares m n y q
+  spares (Pending.Work a ask) rest y offers chosen is k apart =
       let h = (offered-queued m t n Is queues.calls (Pending.Work a ask) rest offers).steps in
       λ at. suited-plain m.image h.0 ask h.2 (ap (row_kind m.image) (sym (row_is m a h.0 h.1) ∙ at) ∙ k)
-  spares (Pending.Named who) rest y offers k apart =
+  spares (Pending.Named who) rest y offers chosen is k apart =
       let h = (offered-queued m t n Is queues.calls (Pending.Named who) rest offers).steps in λ at. h.0 (ap (row_kind m.image) at ∙ k)
-  spares (Pending.Reserve kind) rest y offers k apart = λ j e. apart (j, e)
-  spares Pending.Recycle rest y offers k apart = apart tt
-  spares q rest y offers k apart = tt
+  spares (Pending.Reserve kind) rest y offers chosen is k apart = λ j e. apart (j, e)
+  spares Pending.Recycle rest y offers chosen is k apart = apart tt
+  spares Pending.Expire rest y offers chosen is k apart = λ at. no-timer m.now (object_at m n).contents (ap (λ r. is_some (size_of (object_at m r).contents)) at ∙ is) chosen
+  spares q rest y offers chosen is k apart = tt
 
   -- the size of a queue's messages stays where a call holds the object
   pub size-stays : (q : Pending) (rest : Steps) (y : ℕ) → Offers m t q rest → MayChoose m t n q → row_kind m.image y ≡ Kind.Msgq → IsKept y → Is y
       → size_of (object_at (T.after m t n q rest) y).contents ≡ size_of (object_at m y).contents
-  size-stays q rest y offers chosen k kept is = size-kept m y t n q rest (spares q rest y offers k (kept-apart q y chosen kept)) is
+  size-stays q rest y offers chosen k kept is = size-kept m y t n q rest (spares q rest y offers chosen is k (kept-apart q y chosen kept)) is
 
   -- the step that fills a queue leaves it one
   filled : (q : Pending) (rest : Steps) → Offers m t q rest → (works : (a : Addr) (ask : Ask) → q ≡ Pending.Work a ask → slice_index_or (thread_at m t).checked (T.row_of m a) false ≡ true)
@@ -196,7 +203,7 @@ module _ (m : State) (sound : IsSound m) (queues : AreQueues m) (t n : ℕ) wher
           marked = λ y k marked.
               let here : row_kind m.image y ≡ Kind.Msgq = ap (λ (i : Image). row_kind i y) (sym same) ∙ k in
               let is = was-queue q rest offers y here marked in
-              ap is_some (size-kept m y t n q rest (spares q rest y offers here (marked-apart m t n q rest y marked)) is) ∙ is;
+              ap is_some (size-kept m y t n q rest (spares q rest y offers chosen is here (marked-apart m t n q rest y marked)) is) ∙ is;
         }
 
 -- The opening.
@@ -228,6 +235,7 @@ queue-set mpu Setup.Bare booted h marked none = absurd (false≢true (sym none �
 queue-set mpu (Setup.Thread index) booted h marked none = absurd (false≢true h)
 queue-set mpu (Setup.ThreadStack range declared) booted h marked none = absurd (false≢true h)
 queue-set mpu (Setup.Sem count limit) booted h marked none = absurd (false≢true h)
+queue-set mpu Setup.Timer booted h marked none = absurd (false≢true h)
 queue-set mpu Setup.Mutex booted h marked none = absurd (false≢true h)
 queue-set mpu (Setup.Stack most) booted h marked none = absurd (false≢true h)
 queue-set mpu (Setup.Pipe size) booted h marked none = absurd (false≢true h)

@@ -3,23 +3,26 @@ use Rattle.um_refinement.proofs.Words.{◌≡◌, ℕ, ◌<◌, true, false, con
 use Rattle.um_fine.specs.Runs.{changed}
 use Rattle.um_refinement.proofs.Erased.{Goes, GoesBy, stepped}
 
--- two words of threads say the same, but for whether the thread is held
+-- two words of threads say the same, but for whether the thread is held, and its note
 record SaysSame (v w : ThreadWord) : Type 0 where
   life : v.life ≡ w.life
   doomed : v.doomed ≡ w.doomed
   mode : v.mode ≡ w.mode
   domain : v.domain ≡ w.domain
+  aborted : v.aborted ≡ w.aborted
+  suspended : v.suspended ≡ w.suspended
 
 same-word : (w : ThreadWord) → SaysSame w w
-same-word w = record { life = refl; doomed = refl; mode = refl; domain = refl }
+same-word w = record { life = refl; doomed = refl; mode = refl; domain = refl; aborted = refl; suspended = refl }
 
 word-after : (w : ThreadWord) (u : Unseen) → SaysSame (thread_after_unseen w u) w
-word-after w Unseen.Hold = record { life = refl; doomed = refl; mode = refl; domain = refl }
-word-after w Unseen.LetGo = record { life = refl; doomed = refl; mode = refl; domain = refl }
+word-after w Unseen.Hold = record { life = refl; doomed = refl; mode = refl; domain = refl; aborted = refl; suspended = refl }
+word-after w Unseen.LetGo = record { life = refl; doomed = refl; mode = refl; domain = refl; aborted = refl; suspended = refl }
+word-after w (Unseen.Note site) = record { life = refl; doomed = refl; mode = refl; domain = refl; aborted = refl; suspended = refl }
 word-after w u = same-word w
 
 counted-same : (v w : ThreadWord) → SaysSame v w → SaysSame (record v { number = v.number + 1 }) w
-counted-same v w h = record { life = h.life; doomed = h.doomed; mode = h.mode; domain = h.domain }
+counted-same v w h = record { life = h.life; doomed = h.doomed; mode = h.mode; domain = h.domain; aborted = h.aborted; suspended = h.suspended }
 
 module _ (image : Image) where
   thread-after : (s : SiteState) (u : Unseen) (moved : Exchange) → SaysSame (thread_state (site_after image s (FineAct.Unseen u) moved)) (thread_state s)
@@ -52,7 +55,7 @@ module _ (f : Fine) (m : State) (rel : Rel f m) (e : FineStep) (u : Unseen) (uns
   words-quiet t few =
       let was = (rel.threads t few).word in
       let now = thread-next (Site.thread t) in
-      record { life = now.life ∙ was.life; doomed = now.doomed ∙ was.doomed; mode = now.mode ∙ was.mode; domain = now.domain ∙ was.domain }
+      record { life = now.life ∙ was.life; doomed = now.doomed ∙ was.doomed; mode = now.mode ∙ was.mode; domain = now.domain ∙ was.domain; aborted = now.aborted ∙ was.aborted; suspended = now.suspended ∙ was.suspended }
 
   -- what a step that no trace shows leaves of a site's state is left
   site-left : {A : Type 0} (of : SiteState → A) → ((s : SiteState) (u : Unseen) (moved : Exchange) → of (site_after f.image s (FineAct.Unseen u) moved) ≡ of s)
@@ -67,7 +70,7 @@ module _ (f : Fine) (m : State) (rel : Rel f m) (e : FineStep) (u : Unseen) (uns
   bytes-next = site-left bytes_state (bytes-after f.image) Site.memory
 
   pub memory-quiet : MemoryIs (stepped f.image f.cpus f.processors f.sites e) m
-  memory-quiet = record { memory = ap (λ (b : Bytes). b.memory) bytes-next ∙ rel.memory.memory; stacks = ap (λ (b : Bytes). b.stacks) bytes-next ∙ rel.memory.stacks }
+  memory-quiet = record { memory = ap (λ (b : Bytes). b.memory) bytes-next ∙ rel.memory.memory; stacks = ap (λ (b : Bytes). b.stacks) bytes-next ∙ rel.memory.stacks; futexes = ap (λ (b : Bytes). b.futexes) bytes-next ∙ rel.memory.futexes }
 
   heap-next : heap (stepped f.image f.cpus f.processors f.sites e) ≡ heap f
   heap-next = site-left heap_state (heap-after f.image) Site.heap

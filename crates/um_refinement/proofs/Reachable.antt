@@ -56,6 +56,8 @@ wide-keeping =
           ];
       pool = λ may s left k. record { threads = k.threads; rows = k.rows; objects = k.objects; flags = k.flags; domains = k.domains };
       parts = λ may s d ps k. record { threads = k.threads; rows = k.rows; objects = k.objects; flags = k.flags; domains = length-set s.domains d ps ∙ k.domains };
+      queue = λ may s joins futexes k. record { threads = k.threads; rows = k.rows; objects = k.objects; flags = k.flags; domains = k.domains };
+      clock = λ may s now armed k. record { threads = k.threads; rows = k.rows; objects = k.objects; flags = k.flags; domains = k.domains };
     }
 
 wide-run : (s : State) (events : List Event) (s2 : State) → IsWide s → Runs s events s2 → IsWide s2

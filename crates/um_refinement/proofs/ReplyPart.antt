@@ -1,5 +1,5 @@
 -- What a processor was told of a domain to which its thread moves is what the machine's move answers, after every lawful step.
-use Rattle.um_refinement.proofs.Words.{◌≡◌, ◌⊎◌, inl, inr, ℕ, ◌<◌, Bool, true, false, cond, [], ◌∷◌, length, Option, Some, None, refl, sym, ap, ◌∙◌, subst, arith, eq-eqb, ◌==◌, ◌&&◌, ◌||◌, is_some, unwrap_or, eqb-true, false≢true, true≢false, Act, Image, Reply, ThreadIx, Partitions, Pending, Thread, Steps, State, thread_at, FineAct, Unseen, DomWord, domain_in, begins_cleaning, Context, after_claim, p_next, unless_loaded, Todo, Todos, Processor, fails, is_of, key_of, SiteState, s_next, same_site, site_after, word_of, FineStep, Site, same-sound, reads, Fine, domain, one_if, AreFramed, Behind, OnMemory, edits_step, has_claimed, has_steps, moves_to, moving, Fits, IsOffered, domain_at, move_reply, domain_moved}
+use Rattle.um_refinement.proofs.Words.{runs, ◌≡◌, ◌⊎◌, inl, inr, ℕ, ◌<◌, Bool, true, false, cond, [], ◌∷◌, length, Option, Some, None, refl, sym, ap, ◌∙◌, subst, arith, eq-eqb, ◌==◌, ◌&&◌, ◌||◌, is_some, unwrap_or, eqb-true, false≢true, true≢false, Act, Image, Reply, ThreadIx, Partitions, Pending, Thread, Steps, State, thread_at, FineAct, Unseen, DomWord, domain_in, Context, after_claim, p_next, unless_loaded, Todo, Todos, Processor, fails, is_of, key_of, SiteState, s_next, same_site, site_after, word_of, FineStep, Site, same-sound, reads, Fine, domain, one_if, AreFramed, Behind, OnMemory, edits_step, has_claimed, moves_to, moving, Fits, IsOffered, domain_at, move_reply, domain_moved}
 use Rattle.um_words.specs.Domains as Words
 use Rattle.um_refinement.specs.Offers as O
 use Rattle.um_refinement.proofs.DomainPart.{domain-part}
@@ -8,12 +8,14 @@ use Rattle.um_refinement.proofs.DomainWords.{IsEdited, Stays, is-domain, stays-o
 use Rattle.um_refinement.proofs.Erased.{around}
 use Rattle.um_refinement.proofs.Leaves.{Lawful, Leaves}
 use Rattle.um_refinement.proofs.ListGrowth.{ReadsLast, is_read_claim}
+use Rattle.um_refinement.proofs.HandReads.{moving-runs, offered-noted}
 use Rattle.um_refinement.proofs.ListLooks.{known-behind, moving-reads}
-use Rattle.um_refinement.proofs.ListTails.{exact-next, tail-read, takes-read}
+use Rattle.um_refinement.proofs.ListTails.{adds-pass, quiet-next, tail-read, takes-read}
 use Rattle.um_refinement.proofs.MemorySteps.{part-total}
+use Rattle.um_refinement.proofs.Offered.{own-unless, runs-first}
 use Rattle.um_refinement.proofs.SchedulerSteps.{made-at, made-says, word-left}
 use Rattle.um_refinement.proofs.StepReads.{is-behind}
-use Rattle.um_refinement.proofs.StepsLeft.{offered-on}
+use Rattle.um_refinement.proofs.StepsLeft.{offered-awake, offered-on}
 
 -- A thread moves to domains of the image alone.
 pub record MovesIn (m : State) (n : ℕ) : Type 0 where
@@ -58,6 +60,10 @@ moving-offered image c d (Todo.show q rest ∷ todo) h f k = none-some k
 moving-offered image c d (Todo.pass who x ∷ todo) h f k = none-some (sym (ap moving h.0.behind ∙ (moving-reads image).expanded c h.0.step h.0.rest) ∙ k)
 moving-offered image c d (Todo.drop x ∷ todo) h f k = none-some (sym (ap moving h.behind ∙ (moving-reads image).expanded c h.step h.rest) ∙ k)
 moving-offered image c d (Todo.park ∷ todo) h f k = none-some (sym (ap moving h.2) ∙ k)
+moving-offered image c d (Todo.sleep ∷ todo) h f k = none-some (sym (ap moving h.2) ∙ k)
+moving-offered image c d (Todo.note site ∷ todo) h f k =
+    let o = moving-offered image (record c { noted = Some 0 }) d todo (h 0) f.1 k in (o.0, o.1, offered-noted image c 0 (Pending.DomMove d o.0) o.1 o.2)
+moving-offered image c d (Todo.leave ∷ todo) h f k = moving-offered image c d todo h.1 f.1 k
 moving-offered image c d (Todo.add e ∷ todo) h f k = moving-offered image c d todo h.1 f.1 k
 moving-offered image c d (Todo.read_claim (Some e) ∷ todo) h f k = none-some k
 moving-offered image c d (Todo.read_done (Some e) ∷ todo) h f k =
@@ -95,11 +101,14 @@ module _ (f : Fine) (m : State) (e : FineStep) (law : Lawful f m e) (moves : Mov
   open is-behind f m e law use {frame, last-shown}
 
   -- a domain to which a thread is offered to move is one of the image
-  offered-in : (k d : ℕ) → k < f.cpus → has_steps (f.processors k).todo ≡ true → (who : ThreadIx) (rest : Steps) → IsOffered f.image (f.processors k).context (Pending.DomMove d who) rest → d < length f.image.domains
+  offered-in : (k d : ℕ) → k < f.cpus → runs (f.processors k) ≡ true → (who : ThreadIx) (rest : Steps) → IsOffered f.image (f.processors k).context (Pending.DomMove d who) rest → d < length f.image.domains
   offered-in k d l running who rest offered = by offered
     where
       same : (f.processors k).context.pending ≡ (thread_at m (f.processors k).context.thread).pending
-      same = ap (λ (z : Thread). z.pending) ((law.rel.contexts.running k l running).of (offered-on f.image (f.processors k).context (Pending.DomMove d who) rest offered)).own
+      same =
+          ap (λ (z : Thread). z.pending)
+          (own-unless ((law.rel.contexts.running k l running).of (offered-on f.image (f.processors k).context (Pending.DomMove d who) rest offered))
+          (offered-awake f.image (f.processors k).context (Pending.DomMove d who) rest offered refl))
 
       by : IsOffered f.image (f.processors k).context (Pending.DomMove d who) rest → d < length f.image.domains
       by (O.goes h) = moves.next (f.processors k).context.thread d who rest (sym same ∙ h)
@@ -109,11 +118,7 @@ module _ (f : Fine) (m : State) (e : FineStep) (law : Lawful f m e) (moves : Mov
   in-image : (k d : ℕ) → k < f.cpus → moving (f.processors k).todo ≡ Some d → d < length f.image.domains
   in-image k d l there =
       let o = moving-offered f.image (f.processors k).context d (f.processors k).todo (law.rel.processors k l).list.fits (law.rel.processors k l).frames there in
-      offered-in k d l (runs-on (f.processors k).todo there) o.0 o.1 o.2
-    where
-      runs-on : (todo : Todos) → moving todo ≡ Some d → has_steps todo ≡ true
-      runs-on [] h = none-some h
-      runs-on (q ∷ todo) h = refl
+      offered-in k d l (moving-runs law.rel l d there) o.0 o.1 o.2
 
   -- a move's reply stays right: where it fails its domain is claimed, and where it doesn't the domain stays initialised
   stays-right : (s : State) → Leaves f m e s → (k d : ℕ) → k < f.cpus → moving (f.processors k).todo ≡ Some d → (f.processors k).reply ≡ move_reply (domain_at s d)
@@ -160,7 +165,7 @@ module _ (f : Fine) (m : State) (e : FineStep) (law : Lawful f m e) (moves : Mov
     where
       -- what stands behind the step is read then
       behind : (q : Todo) (todo : Todos) → p.todo ≡ q ∷ todo → is_read_claim q ≡ false → ReadsLast e q todo → moving todo ≡ Some d
-      behind q todo at free last = sym (tail-read f.image moving None (moving-reads f.image) p e q todo at free (frame q todo at) last) ∙ there
+      behind q todo at free last = sym (tail-read f.image moving None (moving-reads f.image) p e q todo at free (adds-pass f.image moving None (moving-reads f.image) (λ c todo. refl) q) (frame q todo at) last) ∙ there
 
       lacks : (q : Todo) (todo : Todos) → p.todo ≡ q ∷ todo → is_read_claim q ≡ false → ReadsLast e q todo → moving todo ≡ None → now.reply ≡ move_reply (domain_at s d)
       lacks q todo at free last none = none-some (sym none ∙ behind q todo at free last)
@@ -171,11 +176,11 @@ module _ (f : Fine) (m : State) (e : FineStep) (law : Lawful f m e) (moves : Mov
       own-claim : (todo : Todos) → p.todo ≡ Todo.read_claim None ∷ todo → now.reply ≡ move_reply (domain_at s d)
       own-claim todo at =
           let h = frame (Todo.read_claim None) todo at in
-          let next = exact-next f.image p e (Todo.read_claim None ∷ todo) at (ap (λ a. begins_cleaning (record e { act = a })) (made-says f m e law (Todo.read_claim None ∷ todo) at)) in
+          let next = quiet-next f.image p e (Todo.read_claim None ∷ todo) Unseen.ReadClaim at (made-says f m e law (Todo.read_claim None ∷ todo) at) refl in
           none-some
           (sym
           (ap (λ (z : Processor). moving z.todo) next
-          ∙ (unless (is_of (key_of (record p { version = (domain_in e.word).version })) p.table) todo ∙ (ap moving h.2 ∙ memory-moving h.0 h.3)))
+          ∙ (unless (is_of (key_of (record p { version = (domain_in e.word).version })) p.table) todo ∙ (ap moving h.1 ∙ (ap moving h.2.3 ∙ memory-moving h.2.0 h.2.4))))
           ∙ there)
         where
           unless : (b : Bool) (left : Todos) → moving (unless_loaded b left) ≡ moving left
@@ -192,10 +197,10 @@ module _ (f : Fine) (m : State) (e : FineStep) (law : Lawful f m e) (moves : Mov
           site = made-at f m e law (Todo.read_claim (Some u) ∷ todo) at
 
           next : now ≡ after_claim p u (domain_in e.word).init 0 todo
-          next = exact-next f.image p e (Todo.read_claim (Some u) ∷ todo) at (ap (λ a. begins_cleaning (record e { act = a })) (made-says f m e law (Todo.read_claim (Some u) ∷ todo) at))
+          next = quiet-next f.image p e (Todo.read_claim (Some u) ∷ todo) Unseen.ReadClaim at (made-says f m e law (Todo.read_claim (Some u) ∷ todo) at) refl
 
           few : u < length f.image.domains
-          few = offered-in e.cpu u law.by.named (ap has_steps at) h.0 h.1 (subst (Fits f.image p.context) h.2 (subst (Fits f.image p.context) at (law.rel.processors e.cpu law.by.named).list.fits)).0
+          few = offered-in e.cpu u law.by.named (runs-first law.rel law.by.named (Todo.read_claim (Some u)) todo at (λ hand. hand)) h.0 h.1 (subst (Fits f.image p.context) h.2 (subst (Fits f.image p.context) at (law.rel.processors e.cpu law.by.named).list.fits)).0
 
           left : (domain_in e.word).init ≡ is_some (domain_at s u)
           left =

@@ -1,6 +1,6 @@
 -- Words and lists of what a fine run of a described image leaves have room for the next step, where words can count it; and each event that is next
 -- is one that its site takes, but for a move of a thread that is held.
-use Rattle.um_refinement.proofs.Words.{◌≡◌, ℕ, ◌<◌, false, ◌∷◌, length, refl, sym, ap, subst, Pending, Steps, State, Context, Todo, Todos, Fine, has_steps, Fits, IsOffered, Rel, CanCount, CanRun, true≢false, ◌∙◌}
+use Rattle.um_refinement.proofs.Words.{◌≡◌, ℕ, ◌<◌, false, ◌∷◌, length, refl, sym, subst, Pending, Steps, State, Context, Todo, Todos, Fine, Fits, IsOffered, Rel, CanCount, CanRun, true≢false, ◌∙◌}
 use Rattle.um_refinement.proofs.Bounds.{AreBounded}
 use Rattle.um_refinement.proofs.CallBounds.{Bounded}
 use Rattle.um_refinement.proofs.CallsProper.{AreProper}
@@ -9,6 +9,7 @@ use Rattle.um_refinement.proofs.ClaimRoom.{claim-room, reader-room}
 use Rattle.um_refinement.proofs.CleanRoom.{clean-room}
 use Rattle.um_refinement.proofs.ClearsKnown.{clears-stand}
 use Rattle.um_refinement.proofs.Reachable.{IsSound}
+use Rattle.um_refinement.proofs.Offered.{runs-first}
 use Rattle.um_refinement.proofs.ReadyRoom.{ready-room}
 use Rattle.um_refinement.proofs.ResumeSteps.{TellsWaiters}
 use Rattle.um_refinement.proofs.StepsLeft.{is_first, offered-left}
@@ -25,7 +26,7 @@ module _ (f : Fine) (m : State) (rel : Rel f m) (proper : AreProper m.image m) (
       → Bounded f.image (length (f.processors k).context.claims) (q ∷ rest)
   shown-bounded k q rest todo l at other =
       let c = (f.processors k).context in
-      offered-bounded c q rest (bounds.running k l (ap has_steps at)).steps (subst (Fits f.image c) at (rel.processors k l).list.fits).0 other
+      offered-bounded c q rest (bounds.running k l (runs-first rel l (Todo.show q rest) todo at (λ hand. hand))).steps (subst (Fits f.image c) at (rel.processors k l).list.fits).0 other
 
   pub events-stand : EventsStand f
   events-stand = record { single = bounds.single; clears = λ k a rest todo l at. clears-stand f m rel proper sound bounds k l a rest todo at }

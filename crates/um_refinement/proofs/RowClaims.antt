@@ -1,5 +1,5 @@
 -- The word of a row counts the claims that are taken of it, and those that end.
-use Rattle.um_refinement.proofs.Words.{◌≡◌, ℕ, ◌+◌, Bool, true, false, Some, None, refl, arith, ◌&&◌, if◌then◌else◌, Act, SetSaid, Addr, RowWord, gone_stage, has, is_last, is_live, permitted, row_after_act}
+use Rattle.um_refinement.proofs.Words.{◌≡◌, ℕ, ◌+◌, Bool, true, false, Some, None, refl, arith, ◌&&◌, if◌then◌else◌, Act, Addr, RowWord, gone_stage, has, is_last, is_live, permitted, row_after_act}
 
 -- the claims that an event takes of a row
 abbrev pub won : RowWord → Act → ℕ

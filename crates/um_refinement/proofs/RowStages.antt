@@ -1,5 +1,5 @@
 -- A row without an object has no claim, and one whose object is dying has one, after every step that its word takes.
-use Rattle.um_refinement.proofs.Words.{◌≡◌, ℕ, ◌+◌, ◌<◌, Bool, true, false, Some, None, refl, sym, ap, ◌∙◌, arith, ◌==◌, ◌&&◌, not, if◌then◌else◌, nat_lt, and_parts, eqb-false, false≢true, ltb-true, not-true, true≢false, Act, SetSaid, Errno, FineAct, More, Unseen, RowWord, Stage, gone_stage, has, is_dying, is_free, is_last, is_live, permitted, row_after, row_after_act, row_says, row_takes, act_in, verdict_in, is_lively, row_says_act, row_takes_act}
+use Rattle.um_refinement.proofs.Words.{◌≡◌, ℕ, ◌+◌, ◌<◌, Bool, true, false, Some, None, refl, sym, ap, ◌∙◌, arith, ◌==◌, ◌&&◌, not, if◌then◌else◌, nat_lt, and_parts, eqb-false, false≢true, ltb-true, not-true, true≢false, Act, Errno, FineAct, More, Unseen, RowWord, Stage, gone_stage, has, is_dying, is_free, is_last, is_live, permitted, row_after, row_after_act, row_says, row_takes, act_in, verdict_in, is_lively, row_says_act, row_takes_act}
 
 -- what the stage of a word says of its claims
 pub record IsStaged (w : RowWord) : Type 0 where

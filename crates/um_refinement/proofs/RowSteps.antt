@@ -3,7 +3,7 @@
 use Rattle.um_refinement.proofs.Words.{◌≡◌, ◌≢◌, ◌⊎◌, inl, inr, ℕ, ◌<◌, Bool, false, Option, Some, None, refl, sym, ap, ◌∙◌, subst, eq-or-lt_of_le, ◌&&◌, not, IsTrue, if◌then◌else◌, and_parts, false≢true, not-true, true≢false, Act, Image, ROWS, Addr, Errno, Kind, Mode, Want, Refusal, Thread, More, ThreadIx, own_row, row_at, Pending, Steps, to_thread, State, is_user, object_at, pair_at, thread_at, FineAct, RowWord, Stage, given_of, has, is_free, is_live, row_says, verdict_of, row_named, act_in, given_in, set_in, verdict_in, Exchange, FineStep, Site, SiteState, is_sort, site_after, site_answers, site_takes, Cell, Todos, kind_of, check_site, shows, Fine, row, row_state, thread_state, is_reserved, recyclers, vacaters, Rel, set_of, fits_kind}
 use Rattle.um_machine.specs.Objects as Plain
 use Rattle.um_machine.specs.Table as T
-use Rattle.um_refinement.proofs.Offered.{IsStep, Shows, act-is, machine-step, own-part, says-at, site-is, takes-at}
+use Rattle.um_refinement.proofs.Offered.{IsStep, Shows, act-is, machine-step, own-same, says-at, site-is, takes-at}
 use Rattle.um_refinement.proofs.Says.{Stands, given-agrees, set-agrees, verdict-agrees}
 
 -- each site keeps its sort
@@ -16,6 +16,8 @@ sort-next image (Site.parts d) (SiteState.cell n (Cell.parts p)) act moved h = r
 sort-next image Site.memory (SiteState.cell n (Cell.memory m)) act moved h = refl
 sort-next image Site.heap (SiteState.cell n (Cell.heap k)) act moved h = refl
 sort-next image Site.scheduler (SiteState.cell n (Cell.scheduler s)) act moved h = refl
+sort-next image Site.clock (SiteState.cell n (Cell.clock c)) act moved h = refl
+sort-next image Site.joins (SiteState.cell n (Cell.joins j)) act moved h = refl
 sort-next image i s act moved h = absurd (false≢true h)
 
 pub row-sort : (x : ℕ) (s : SiteState) → IsTrue (is_sort (Site.row x) s) → s ≡ SiteState.row (row_state s)
@@ -160,7 +162,7 @@ module _ {f : Fine} {m : State} {k : ℕ} {e : FineStep} {rest : Steps} {todo : 
       let site = site-is h ∙ ap (check_site f.image (f.processors k)) there in
       let says : verdict_of (row f x) c.thread c.mode (Plain.has_kind kind (kind_of f.image x)) want ≡ verdict_in (act_in e.act) =
       ap (λ z. verdict_in (act_in z)) (row-says h x (by_row (Some x)) site (act-is h ∙ ap by_row there)) in
-      let mode : c.mode ≡ (thread_at m c.thread).mode = ap (λ (z : Thread). z.mode) (own-part h).own in
+      let mode : c.mode ≡ (thread_at m c.thread).mode = ap (λ (z : Thread). z.mode) (own-same h) in
       machine-step h 0 (act-is h) tt
       (ap (Act.Check a kind want) (sym says ∙ (verdict-here f m h.rel x c.thread c.mode kind want few mode
       ∙ sym (ap (Plain.verdict_at m c.thread kind want) (ap (λ (i : Image). row_at i a.0) h.rel.image ∙ there)))))

@@ -101,15 +101,15 @@ left-agrees {m} {x} {birth} {w} who r dynamic lives same =
 
 -- what work does, on a cell that stands for the object
 pub work-agrees : (m : State) (t x : ℕ) (a : Addr) (ask : Ask) (o : ObjectCell) (c : Context)
-    → x ≡ T.row_of m a → o.contents ≡ (object_at m x).contents → o.waiters ≡ (object_at m x).waiters → c.priority ≡ (thread_at m t).priority → c.buffer ≡ (thread_at m t).buffer
-    → acted o.contents o.waiters (record { thread = to_thread t; priority = c.priority; ask = ask; bytes = T.bytes_given c.buffer ask }) ≡ T.work_of m t a ask
-work-agrees m t x a ask o c at contents waiters priority buffer =
-    (λ i. acted (contents i) (waiters i) (record { thread = to_thread t; priority = priority i; ask = ask; bytes = T.bytes_given (buffer i) ask }))
-    ∙ ap (λ y. acted (object_at m y).contents (object_at m y).waiters (record { thread = to_thread t; priority = (thread_at m t).priority; ask = ask; bytes = T.bytes_given (thread_at m t).buffer ask })) at
+    → x ≡ T.row_of m a → o.contents ≡ (object_at m x).contents → o.waiters ≡ (object_at m x).waiters → c.priority ≡ (thread_at m t).priority → c.buffer ≡ (thread_at m t).buffer → c.until ≡ (thread_at m t).until
+    → acted o.contents o.waiters (record { thread = to_thread t; priority = c.priority; ask = ask; bytes = T.bytes_given c.buffer ask; until = c.until }) ≡ T.work_of m t a ask
+work-agrees m t x a ask o c at contents waiters priority buffer until =
+    (λ i. acted (contents i) (waiters i) (record { thread = to_thread t; priority = priority i; ask = ask; bytes = T.bytes_given (buffer i) ask; until = until i }))
+    ∙ ap (λ y. acted (object_at m y).contents (object_at m y).waiters (record { thread = to_thread t; priority = (thread_at m t).priority; ask = ask; bytes = T.bytes_given (thread_at m t).buffer ask; until = (thread_at m t).until })) at
 
 -- bytes, where the memory cell has the plain memory, and what is allowed, where the table has the thread's regions
 pub read-agrees : (m : State) (b : Bytes) (a n : ℕ) → b.memory ≡ m.memory → b.stacks ≡ m.stacks → read m.image b a n ≡ bytes_at m a n
-read-agrees m b a n memory stacks = λ i. read m.image (record { memory = memory i; stacks = stacks i }) a n
+read-agrees m b a n memory stacks = λ i. read m.image (record b { memory = memory i; stacks = stacks i }) a n
 
 pub allowed-agrees : (m : State) (p : Processor) (t : ℕ) (access : Access) (a n : ℕ) → loaded m.image p.table ≡ regions_of m t → allows m.image p access a n ≡ allowed m t access a n
 allowed-agrees m p t access a n e = ap (λ rs. regions_allow rs access a n) e

@@ -1,5 +1,6 @@
 -- The cell of the scheduler after a lawful step: what it takes, and what it keeps then.
-use Rattle.um_refinement.proofs.Words.{◌≡◌, ℕ, true, false, cond, Option, Some, None, refl, sym, ap, ◌∙◌, subst, if◌then◌else◌, nat_lt, and_parts, Image, row_at, Pending, FineAct, check_site, moves, says, site_at, site_of_step, Cell, Todos, Processor, fails, sched_after, sched_takes, SiteState, s_next, same_site, site_after, site_answers, site_moves, site_takes, word_of, Exchange, FineStep, Site, same-itself, Fine, scheduler, scheduler_state, State, sched_moves, sched_says}
+use Rattle.um_refinement.proofs.Words.{◌≡◌, ℕ, true, false, cond, Option, Some, None, refl, sym, ap, ◌∙◌, subst, if◌then◌else◌, nat_lt, and_parts, Image, row_at, Pending, FineAct, check_site, moves, says, site_of_step, Cell, Todos, Processor, fails, sched_after, sched_takes, SiteState, s_next, same_site, site_after, site_answers, site_moves, site_takes, word_of, Exchange, FineStep, Site, same-itself, Fine, scheduler, scheduler_state, State, sched_moves, sched_says}
+use Rattle.um_fine.specs.Asks.{site_by}
 use Rattle.um_refinement.proofs.Erased.{around}
 use Rattle.um_refinement.proofs.Kept.{scheduler-sort}
 use Rattle.um_refinement.proofs.Leaves.{Lawful, maker}
@@ -19,14 +20,14 @@ module _ (f : Fine) (m : State) (e : FineStep) (law : Lawful f m e) where
   open around f e use {later}
 
   -- where a step is made, and what it says and moves
-  pub made-at : (todo : Todos) → (maker f m e).todo ≡ todo → e.site ≡ site_at f.image (maker f m e) todo
-  made-at todo at = sym (ap (λ (s : FineStep). s.site) law.by.may.makes) ∙ ap (site_at f.image (maker f m e)) at
+  pub made-at : (todo : Todos) → (maker f m e).todo ≡ todo → e.site ≡ site_by f.image (maker f m e) todo e.act
+  made-at todo at = sym (ap (λ (s : FineStep). s.site) law.by.may.makes) ∙ ap (λ (z : Todos). site_by f.image (maker f m e) z e.act) at
 
   pub made-says : (todo : Todos) → (maker f m e).todo ≡ todo → e.act ≡ says f.image (maker f m e) todo e.act e.moved
   made-says todo at = sym (ap (λ (s : FineStep). s.act) law.by.may.makes) ∙ ap (λ (z : Todos). says f.image (maker f m e) z e.act e.moved) at
 
-  pub made-moves : (todo : Todos) → (maker f m e).todo ≡ todo → e.moved ≡ moves f.image (maker f m e) todo e.moved
-  made-moves todo at = sym (ap (λ (s : FineStep). s.moved) law.by.may.makes) ∙ ap (λ (z : Todos). moves f.image (maker f m e) z e.moved) at
+  pub made-moves : (todo : Todos) → (maker f m e).todo ≡ todo → e.moved ≡ moves f.image (maker f m e) todo e.act e.moved
+  made-moves todo at = sym (ap (λ (s : FineStep). s.moved) law.by.may.makes) ∙ ap (λ (z : Todos). moves f.image (maker f m e) z e.act e.moved) at
 
   -- The word that a step leaves is the one that stands then.
   pub word-left : e.word ≡ word_of (s_next f.image (f.sites e.site) e)

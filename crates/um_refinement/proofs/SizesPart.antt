@@ -1,22 +1,26 @@
 -- The size of a queue's messages that a processor has looked at is that of the machine, after every lawful step: its thread's call holds the
 -- queue, so nobody frees it, and no act makes other contents of it.
-use Rattle.um_refinement.proofs.Words.{◌≡◌, inr, ℕ, ◌<◌, Bool, true, false, cond, [], ◌∷◌, Option, Some, None, refl, sym, ap, ◌∙◌, subst, ◌==◌, if◌then◌else◌, slice_index_or, unwrap_or, eqb-true, false≢true, Image, ROWS, Addr, Kind, Contents, Amount, Pending, Thread, Steps, to_thread, State, object_at, thread_at, FineAct, Unseen, row_kind, below_rows, row_named, domain_in, is_word_read, begins_cleaning, Cell, Context, after_claim, after_show, goes_on_by, p_next, unless_loaded, with_cleaned, ObjectCell, Todo, Todos, Processor, is_of, key_of, SiteState, site_moves, Exchange, FineStep, Site, Fine, object, AreFramed, has_steps, looked, Fits, IsOffered, message_size, size_in, queue_in, IsSized}
+use Rattle.um_refinement.proofs.Words.{thread_in, waits, MayChoose, is_some, runs, ◌≡◌, inr, ℕ, ◌<◌, Bool, true, false, cond, [], ◌∷◌, Option, Some, None, refl, sym, ap, ◌∙◌, subst, ◌==◌, if◌then◌else◌, slice_index_or, unwrap_or, eqb-true, false≢true, Image, ROWS, Addr, Kind, Contents, Amount, Pending, Thread, Steps, to_thread, State, object_at, thread_at, FineAct, Unseen, row_kind, below_rows, row_named, domain_in, is_word_read, begins_cleaning, Cell, Context, after_claim, after_show, goes_on_by, p_next, unless_loaded, with_cleaned, ObjectCell, Todo, Todos, Processor, is_of, key_of, SiteState, site_moves, Exchange, FineStep, Site, Fine, object, AreFramed, looked, Fits, IsOffered, message_size, size_in, queue_in, IsSized}
+use Rattle.um_machine.specs.Table as T
+use Rattle.um_fine.specs.Follows.{shown_step, with_actor}
+use Rattle.um_fine.specs.Places.{put_away}
 use Rattle.um_refinement.specs.Offers as O
 use Rattle.um_refinement.proofs.Erased.{around}
+use Rattle.um_refinement.proofs.HandReads.{looked-runs, offered-noted}
 use Rattle.um_refinement.proofs.HeldRows.{checked-claimed, claimed-whole}
-use Rattle.um_refinement.proofs.Leaves.{Lawful, Leaves, cleans, drops, event, mine, nothing, passes, recycles, resumes}
+use Rattle.um_refinement.proofs.Leaves.{Beside, Lawful, Leaves, beside as beside_it, cleans, cuts, drops, event, expires, leaves as leaves_it, mine, nothing, passes, recycles, resumes, ticks, times_out}
 use Rattle.um_refinement.proofs.ListGrowth.{ReadsLast, is_read_claim}
 use Rattle.um_refinement.proofs.ListLooks.{known-behind, looked-reads}
-use Rattle.um_refinement.proofs.ListTails.{exact-next, tail-read, takes-read}
-use Rattle.um_refinement.proofs.Offered.{shown-offers}
+use Rattle.um_refinement.proofs.ListTails.{adds-pass, quiet-next, tail-read, takes-read}
+use Rattle.um_refinement.proofs.Offered.{own-unless, runs-first, shown-offers}
 use Rattle.um_refinement.proofs.QueueSteps.{IsKnownAt, Queued}
 use Rattle.um_refinement.proofs.QueuesAfter.{Holds}
 use Rattle.um_refinement.proofs.QueuesKept.{IsQueue, size-kept, size_of}
-use Rattle.um_refinement.proofs.QueuesKnown.{AreQueues, kept-apart, size-stays}
+use Rattle.um_refinement.proofs.QueuesKnown.{AreQueues, kept-apart, no-timer, size-stays}
 use Rattle.um_refinement.proofs.ReplyPart.{none-some}
 use Rattle.um_refinement.proofs.SchedulerSteps.{made-at, made-says}
 use Rattle.um_refinement.proofs.StepReads.{is-behind}
-use Rattle.um_refinement.proofs.StepsLeft.{is_first, offered-left, offered-on}
+use Rattle.um_refinement.proofs.StepsLeft.{is_first, offered-awake, offered-left, offered-on}
 use Rattle.um_refinement.proofs.WorkSteps.{object-sort}
 
 some-is : {a b : Addr} → Some a ≡ Some b → a ≡ b
@@ -36,6 +40,10 @@ looks-for image c a (Todo.size_look x ∷ todo) h f k = none-some k
 looks-for image c a (Todo.pass who x ∷ todo) h f k = none-some (sym (ap looked h.0.behind ∙ (looked-reads image).expanded c h.0.step h.0.rest) ∙ k)
 looks-for image c a (Todo.drop x ∷ todo) h f k = none-some (sym (ap looked h.behind ∙ (looked-reads image).expanded c h.step h.rest) ∙ k)
 looks-for image c a (Todo.park ∷ todo) h f k = none-some (sym (ap looked h.2) ∙ k)
+looks-for image c a (Todo.sleep ∷ todo) h f k = none-some (sym (ap looked h.2) ∙ k)
+looks-for image c a (Todo.note site ∷ todo) h f k =
+    let l = looks-for image (record c { noted = Some 0 }) a todo (h 0) f.1 k in record { step = l.step; rest = l.rest; offered = offered-noted image c 0 l.step l.rest l.offered; queue = l.queue }
+looks-for image c a (Todo.leave ∷ todo) h f k = looks-for image c a todo h.1 f.1 k
 looks-for image c a (Todo.add d ∷ todo) h f k = looks-for image c a todo h.1 f.1 k
 looks-for image c a (q ∷ todo) h f k = looks-for image c a todo h f.1 k
 
@@ -51,7 +59,7 @@ is_size_look (Todo.size_look x) = true
 is_size_look q = false
 
 show-size : (image : Image) (p : Processor) (e : FineStep) (q : Pending) (rest : Steps) (todo : Todos) (b : Bool)
-    → (if b then record p { todo = Todo.done ∷ [] } else after_show image p e q rest todo).size ≡ p.size
+    → (if b then record p { todo = put_away (thread_in e.word).doomed } else after_show image p e q rest todo).size ≡ p.size
 show-size image p e q rest todo true = refl
 show-size image p e q rest todo false = refl
 
@@ -60,7 +68,7 @@ claim-size p d true todo = refl
 claim-size p d false todo = refl
 
 goes-size : (image : Image) (p : Processor) (e : FineStep) (q : Todo) (todo : Todos) → is_size_look q ≡ false → (goes_on_by image p e (q ∷ todo)).size ≡ p.size
-goes-size image p e (Todo.show q rest) todo h = show-size image p e q rest todo (is_word_read e.act)
+goes-size image p e (Todo.show q rest) todo h = show-size image p e (shown_step image q e.act) rest todo (is_word_read e.act)
 goes-size image p e (Todo.read_claim None) todo h = refl
 goes-size image p e (Todo.read_claim (Some d)) todo h = claim-size p d (domain_in e.word).init todo
 goes-size image p e (Todo.size_look x) todo h = absurd (false≢true (sym h))
@@ -70,10 +78,15 @@ cleaned-size : (image : Image) (p : Processor) (e : FineStep) (b : Bool) → (wi
 cleaned-size image p e true = refl
 cleaned-size image p e false = refl
 
+acted-size : (image : Image) (p : Processor) (act : FineAct) → (with_actor image p act).size ≡ p.size
+acted-size image p (FineAct.Shown made more) = refl
+acted-size image p (FineAct.Unseen u) = refl
+
 next-size : (image : Image) (p : Processor) (e : FineStep) (q : Todo) (todo : Todos) → p.todo ≡ q ∷ todo → is_size_look q ≡ false → (p_next image p e).size ≡ p.size
 next-size image p e q todo at h =
-    cleaned-size image (goes_on_by image p e p.todo) e (begins_cleaning e)
-    ∙ (ap (λ (z : Todos). (goes_on_by image p e z).size) at ∙ goes-size image p e q todo h)
+    acted-size image (with_cleaned image (goes_on_by image p e p.todo) e (begins_cleaning e)) e.act
+    ∙ (cleaned-size image (goes_on_by image p e p.todo) e (begins_cleaning e)
+    ∙ (ap (λ (z : Todos). (goes_on_by image p e z).size) at ∙ goes-size image p e q todo h))
 
 module _ (f : Fine) (m : State) (e : FineStep) (law : Lawful f m e) (queues : AreQueues m) where
   open around f e use {later, processor as p, now}
@@ -98,7 +111,7 @@ module _ (f : Fine) (m : State) (e : FineStep) (law : Lawful f m e) (queues : Ar
     kind : row_kind m.image (row_named f.image a) ≡ Kind.Msgq
     is : Is (row_named f.image a)
 
-  knows : (k : ℕ) (a : Addr) → k < f.cpus → has_steps (f.processors k).todo ≡ true → LooksFor f.image (f.processors k).context a → Known k a
+  knows : (k : ℕ) (a : Addr) → k < f.cpus → runs (f.processors k) ≡ true → LooksFor f.image (f.processors k).context a → Known k a
   knows k a l running looks =
       record {
         few = subst (λ r. r < ROWS) row (below_rows m.image y law.sound.known.reached.sited (law.sound.known.reached.sited.found a.0 y at.1).0);
@@ -114,8 +127,15 @@ module _ (f : Fine) (m : State) (e : FineStep) (law : Lawful f m e) (queues : Ar
       over : O.is_over (f.processors k).context ≡ false
       over = offered-on f.image (f.processors k).context looks.step looks.rest looks.offered
 
+      awake : (q : Pending) → queue_in q ≡ Some a → waits (q ∷ looks.rest) ≡ false
+      awake Pending.Resume queue = none-some queue
+      awake q queue = refl
+
       same : (f.processors k).context.pending ≡ (thread_at m t).pending
-      same = ap (λ (z : Thread). z.pending) ((law.rel.contexts.running k l running).of over).own
+      same =
+          ap (λ (z : Thread). z.pending)
+          (own-unless ((law.rel.contexts.running k l running).of over)
+          (offered-awake f.image (f.processors k).context looks.step looks.rest looks.offered (awake looks.step looks.queue)))
 
       first-none : (q : Pending) → is_first q ≡ true → queue_in q ≡ Some a → ⊥
       first-none Pending.Begin is queue = none-some queue
@@ -150,6 +170,14 @@ module _ (f : Fine) (m : State) (e : FineStep) (law : Lawful f m e) (queues : Ar
       t : ℕ
       t = (f.processors k).context.thread
 
+      on-beside : (u x : ℕ) (q : Pending) → Beside f m e u x q → MayChoose m u x q → size_of (object_at (T.after m u x q (thread_at m u).pending) y).contents ≡ size_of (object_at m y).contents
+      on-beside u x _ (cuts who site before c todo at place inside said) chosen = size-kept m y u x (Pending.Cut (to_thread who)) (thread_at m u).pending tt known.is
+      on-beside u x _ (times_out deadline site c who todo at place inside said) chosen = size-kept m y u x (Pending.TimeOut who) (thread_at m u).pending tt known.is
+      on-beside u x _ (expires deadline c todo at inside said) chosen =
+          size-kept m y u x Pending.Expire (thread_at m u).pending (λ at. no-timer m.now (object_at m x).contents (ap (λ r. is_some (size_of (object_at m r).contents)) at ∙ known.is) chosen) known.is
+      on-beside u x _ (ticks at said) chosen = size-kept m y u x Pending.Tick (thread_at m u).pending tt known.is
+      on-beside u x _ (leaves_it todo at said) chosen = size-kept m y u x Pending.Left (thread_at m u).pending tt known.is
+
       by : (s : State) → Leaves f m e s → size_of (object_at s y).contents ≡ size_of (object_at m y).contents
       by _ (nothing u said) = refl
       by _ (event q rest todo n h shown is) = size-stays m law.sound queues (mine f m e) n q rest y (shown-offers h) is.chosen known.kind (inr (t, known.held)) known.is
@@ -157,16 +185,13 @@ module _ (f : Fine) (m : State) (e : FineStep) (law : Lawful f m e) (queues : Ar
       by _ (passes who x rest todo h said) = size-kept m y (mine f m e) x (Pending.Inherit (to_thread who)) rest tt known.is
       by _ (drops from x rest todo h said) = size-kept m y (mine f m e) x (Pending.Drops from) rest tt known.is
       by _ (cleans who x rest todo h said) = size-kept m y (mine f m e) x (Pending.CleanPair (to_thread who)) rest tt known.is
+      by _ (beside_it u x q how chosen started) = on-beside u x q how chosen
       by _ (recycles x rest todo at l said chosen) =
           size-kept m y (mine f m e) x Pending.Recycle rest (kept-apart m law.sound queues (mine f m e) x Pending.Recycle y chosen (inr (t, known.held)) tt) known.is
 
   knows-looked : (k : ℕ) (a : Addr) → k < f.cpus → looked (f.processors k).todo ≡ Some a → Known k a
   knows-looked k a l there =
-      knows k a l (runs-on (f.processors k).todo there) (looks-for f.image (f.processors k).context a (f.processors k).todo (law.rel.processors k l).list.fits (law.rel.processors k l).frames there)
-    where
-      runs-on : (todo : Todos) → looked todo ≡ Some a → has_steps todo ≡ true
-      runs-on [] h = none-some h
-      runs-on (q ∷ todo) h = refl
+      knows k a l (looked-runs law.rel l a there) (looks-for f.image (f.processors k).context a (f.processors k).todo (law.rel.processors k l).list.fits (law.rel.processors k l).frames there)
 
   stays-sized : (s : State) → Leaves f m e s → (k : ℕ) (a : Addr) → k < f.cpus → looked (f.processors k).todo ≡ Some a → (f.processors k).size ≡ message_size (object_at s (row_named f.image a)).contents
   stays-sized s leaves k a l there = (law.rel.processors k l).looks.size a there ∙ sym (size-same k a (knows-looked k a l there) s leaves)
@@ -178,14 +203,14 @@ module _ (f : Fine) (m : State) (e : FineStep) (law : Lawful f m e) (queues : Ar
     where
       -- what stands behind the step is read then
       behind : (q : Todo) (todo : Todos) → p.todo ≡ q ∷ todo → is_read_claim q ≡ false → ReadsLast e q todo → looked todo ≡ Some a
-      behind q todo at free last = sym (tail-read f.image looked None (looked-reads f.image) p e q todo at free (frame q todo at) last) ∙ there
+      behind q todo at free last = sym (tail-read f.image looked None (looked-reads f.image) p e q todo at free (adds-pass f.image looked None (looked-reads f.image) (λ c todo. refl) q) (frame q todo at) last) ∙ there
 
       goes-on : (q : Todo) (todo : Todos) → p.todo ≡ q ∷ todo → is_size_look q ≡ false → looked (q ∷ todo) ≡ Some a → now.size ≡ message_size (object_at s (row_named f.image a)).contents
       goes-on q todo at quiet was = next-size f.image p e q todo at quiet ∙ stays-sized s leaves e.cpu a law.by.named (ap looked at ∙ was)
 
       own-claim : (todo : Todos) → p.todo ≡ Todo.read_claim None ∷ todo → now.size ≡ message_size (object_at s (row_named f.image a)).contents
       own-claim todo at =
-          let next = exact-next f.image p e (Todo.read_claim None ∷ todo) at (ap (λ act. begins_cleaning (record e { act = act })) (made-says f m e law (Todo.read_claim None ∷ todo) at)) in
+          let next = quiet-next f.image p e (Todo.read_claim None ∷ todo) Unseen.ReadClaim at (made-says f m e law (Todo.read_claim None ∷ todo) at) refl in
           goes-on (Todo.read_claim None) todo at refl
           (sym (unless (is_of (key_of (record p { version = (domain_in e.word).version })) p.table) todo) ∙ (sym (ap (λ (z : Processor). looked z.todo) next) ∙ there))
         where
@@ -196,7 +221,7 @@ module _ (f : Fine) (m : State) (e : FineStep) (law : Lawful f m e) (queues : Ar
       claim : (u : ℕ) (todo : Todos) → p.todo ≡ Todo.read_claim (Some u) ∷ todo → now.size ≡ message_size (object_at s (row_named f.image a)).contents
       claim u todo at =
           let h = frame (Todo.read_claim (Some u)) todo at in
-          let next = exact-next f.image p e (Todo.read_claim (Some u) ∷ todo) at (ap (λ act. begins_cleaning (record e { act = act })) (made-says f m e law (Todo.read_claim (Some u) ∷ todo) at)) in
+          let next = quiet-next f.image p e (Todo.read_claim (Some u) ∷ todo) Unseen.ReadClaim at (made-says f m e law (Todo.read_claim (Some u) ∷ todo) at) refl in
           none-some (sym (ap (λ (z : Processor). looked z.todo) next ∙ (either (domain_in e.word).init ∙ ap looked h.2)) ∙ there)
         where
           either : (b : Bool) → looked (after_claim p u b 0 todo).todo ≡ looked todo
@@ -207,21 +232,24 @@ module _ (f : Fine) (m : State) (e : FineStep) (law : Lawful f m e) (queues : Ar
       look x todo at =
           ap (λ (z : Processor). z.size) next
           ∙ (ap size_in (sym moved)
-          ∙ (ap (λ (o : ObjectCell). message_size o.contents) ((law.rel.rows x few).contents.whole (claimed-whole f m law.rel x few (checked-claimed f m law.rel e.cpu x law.by.named few (ap has_steps at) known.on held)))
+          ∙ (ap (λ (o : ObjectCell). message_size o.contents) ((law.rel.rows x few).contents.whole (claimed-whole f m law.rel x few (checked-claimed f m law.rel e.cpu x law.by.named few running known.on held)))
           ∙ (ap (λ r. message_size (object_at m r).contents) row ∙ sym (size-same e.cpu a known s leaves))))
         where
           said : e.act ≡ FineAct.Unseen Unseen.SizeLook
           said = made-says f m e law (Todo.size_look x ∷ todo) at
 
           next : now ≡ goes_on_by f.image p e (Todo.size_look x ∷ todo)
-          next = exact-next f.image p e (Todo.size_look x ∷ todo) at (ap (λ act. begins_cleaning (record e { act = act })) said)
+          next = quiet-next f.image p e (Todo.size_look x ∷ todo) Unseen.SizeLook at said refl
 
           left : looked todo ≡ Some a
           left = behind (Todo.size_look x) todo at refl tt
 
+          running : runs p ≡ true
+          running = runs-first law.rel law.by.named (Todo.size_look x) todo at (λ hand. hand)
+
           known : Known e.cpu a
           known =
-              knows e.cpu a law.by.named (ap has_steps at)
+              knows e.cpu a law.by.named running
               (looks-for f.image p.context a todo (subst (Fits f.image p.context) at (law.rel.processors e.cpu law.by.named).list.fits) (subst (AreFramed f.image) at (law.rel.processors e.cpu law.by.named).frames).1 left)
 
           -- the row that is looked at is the queue's

@@ -1,5 +1,5 @@
 -- A thread that has a step of its own left isn't over: one that is offered, that visits rows, or that starts another one next.
-use Rattle.um_refinement.proofs.Words.{◌≡◌, ℕ, Bool, true, false, ◌∷◌, refl, ap, ◌∙◌, ◌&&◌, nat_lt, list_all, Image, ROWS, Pending, Steps, is_empty, State, Context, Todos, Drops, IsOffered, Passes, is_over, IsRun, and-false, subst, ThreadIx, Thread, Policy, [], ◌==◌, if◌then◌else◌, end_steps, fatal_steps}
+use Rattle.um_refinement.proofs.Words.{false≢true, waits, ◌≡◌, ℕ, Bool, true, false, ◌∷◌, refl, ap, ◌∙◌, ◌&&◌, nat_lt, list_all, Image, ROWS, Pending, Steps, is_empty, State, Context, Fine, Todos, Drops, IsOffered, Passes, is_over, IsRun, and-false, subst, ThreadIx, Thread, Policy, [], ◌==◌, if◌then◌else◌, end_steps, fatal_steps}
 use Rattle.um_refinement.specs.Offers as O
 
 -- it has a step
@@ -23,6 +23,36 @@ is_first Pending.Begin = true
 is_first Pending.Exit = true
 is_first q = false
 
+-- no step that a thread makes at rest is among those that it makes next
+abbrev pub BeginsNothing : Steps → Type 0
+BeginsNothing [] = Unit {0}
+BeginsNothing (Pending.Begin ∷ rest) = ⊥
+BeginsNothing (Pending.Exit ∷ rest) = ⊥
+BeginsNothing (Pending.Inherit who ∷ rest) = BeginsNothing rest
+BeginsNothing (Pending.Drops from ∷ rest) = BeginsNothing rest
+BeginsNothing (q ∷ rest) = Unit {0}
+
+first-not : (q : Pending) (rest : Steps) → is_first q ≡ true → BeginsNothing (q ∷ rest) → ⊥
+first-not Pending.Begin rest h n = n
+first-not Pending.Exit rest h n = n
+first-not q rest h n = false≢true h
+
+-- so one that is offered such a step is at rest
+pub first-rests : (image : Image) (c : Context) (q : Pending) (rest : Steps) → IsOffered image c q rest → is_first q ≡ true → BeginsNothing c.pending → (c.pending ≡ []) × (c.ended ≡ false)
+first-rests image c q rest (O.goes e) first none = absurd (first-not q rest first (subst BeginsNothing e none))
+first-rests image c q rest (O.passed {who} e) first none = absurd (first-not q rest first (subst BeginsNothing e none))
+first-rests image c q rest (O.dropped {from} e) first none = absurd (first-not q rest first (subst BeginsNothing e none))
+first-rests image c _ _ (O.begins e on i) first none = (e, on)
+first-rests image c _ _ (O.exits e on i) first none = (e, on)
+
+-- and one that is offered any other step than to go on after a wait doesn't wait
+pub offered-awake : (image : Image) (c : Context) (q : Pending) (rest : Steps) → IsOffered image c q rest → waits (q ∷ rest) ≡ false → waits c.pending ≡ false
+offered-awake image c q rest (O.goes e) awake = ap waits e ∙ awake
+offered-awake image c q rest (O.passed e) awake = ap waits e
+offered-awake image c q rest (O.dropped e) awake = ap waits e
+offered-awake image c _ _ (O.begins e on i) awake = ap waits e
+offered-awake image c _ _ (O.exits e on i) awake = ap waits e
+
 -- what holds of all pending steps, and passes over visits, holds from the one that is offered on
 pub offered-left : (image : Image) (c : Context) (P : Steps → Type 0) → ((who : ThreadIx) (rest : Steps) → P (Pending.Inherit who ∷ rest) → P rest)
     → ((from : ℕ) (rest : Steps) → P (Pending.Drops from ∷ rest) → P rest) → P c.pending
@@ -40,8 +70,8 @@ pub drops-on : (image : Image) (c : Context) (todo : Todos) → Drops image c to
 drops-on image c todo h = steps-on c (Pending.Drops h.from) (h.step ∷ h.rest) h.pending
 
 -- the rows that a thread's call holds are rows, also of one that is over, which holds none
-pub run-below : (m : State) (c : Context) → IsRun m c → list_all (λ x. nat_lt x ROWS) c.claims ≡ true
-run-below m c is = by (is_over c) refl
+pub run-below : (f : Fine) (m : State) (c : Context) → IsRun f m c → list_all (λ x. nat_lt x ROWS) c.claims ≡ true
+run-below f m c is = by (is_over c) refl
   where
     by : (b : Bool) → is_over c ≡ b → list_all (λ x. nat_lt x ROWS) c.claims ≡ true
     by true e = ap (list_all (λ x. nat_lt x ROWS)) (is.over e)

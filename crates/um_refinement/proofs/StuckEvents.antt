@@ -1,13 +1,19 @@
 -- Where a processor can't step, an event that is next moves a thread that is held: its site takes any other one.
-use Rattle.um_refinement.proofs.Words.{◌≡◌, inl, inr, ℕ, zero, suc, ◌<◌, Bool, true, false, List, [], ◌∷◌, length, Option, Some, None, refl, sym, ap, ◌∙◌, subst, arith, eq-eqb, ◌==◌, ◌&&◌, ◌||◌, ℤ, not, if◌then◌else◌, is_some, nat_lt, slice_index_or, unwrap_or, list_all, list_any, and_parts, eqb-true, false≢true, lt-ltb, ltb-true, true≢false, or-true, Act, Image, Addr, ROWS, Kind, Mode, Reply, Row, ThreadIx, Want, own_row, row_at, Partitions, Object, Status, Pending, Refusal, Life, Thread, Steps, State, instruction_at, is_living, is_started, object_at, thread_at, vacant, Call, call_is, status_is, Guarded, IsStatic, behind_birth, Stage, is_cleaning, is_free, row_named, allows, check_site, Cell, newborn, Bytes, Todo, Todos, fails, SiteState, Exchange, Site, reads, Fine, bytes, domain, one_if, row, word, edits, edits_step, has_claimed, has_held, has_steps, is_hold, is_let_go, moves_to, moving, runs, is_reserved, recyclers, status_of, vacaters, Fits, IsOffered, is_over, Rel, IsHalted, IsOf, is_ended, le-leb, DOMAINS, domain_at, move_reply, Names, bearing, memory_says_act, all_behind}
+use Rattle.um_refinement.proofs.EventFacts.{InImage, first-in, edit-in, either-taken, living, inside-objects}
+use Rattle.um_refinement.proofs.Words.{are_orderly, waits, FineAct, More, ◌≡◌, inl, inr, ℕ, ◌<◌, Bool, true, false, [], ◌∷◌, length, Option, Some, None, refl, sym, ap, ◌∙◌, subst, arith, eq-eqb, ◌==◌, ◌&&◌, ◌||◌, ℤ, not, if◌then◌else◌, is_some, nat_lt, unwrap_or, list_all, list_any, and_parts, false≢true, lt-ltb, ltb-true, true≢false, or-true, Act, Image, Addr, ROWS, Kind, Mode, Reply, Row, ThreadIx, Want, own_row, row_at, Partitions, Status, Pending, Refusal, Thread, Steps, State, instruction_at, is_living, object_at, thread_at, Call, call_is, status_is, Guarded, IsStatic, behind_birth, Stage, is_cleaning, is_free, row_named, allows, check_site, Cell, newborn, Todo, Todos, fails, SiteState, Exchange, Site, reads, Fine, bytes, domain, one_if, row, word, edits, edits_step, has_claimed, has_held, is_hold, is_let_go, moves_to, moving, runs, is_reserved, recyclers, status_of, vacaters, Fits, IsOffered, is_over, Rel, IsHalted, IsOf, le-leb, DOMAINS, domain_at, move_reply, Names, bearing, all_behind}
 use Rattle.um_base.specs.declared.names.Access.TheVariants as Access
 use Rattle.um_machine.specs.Objects as Plain
-use Rattle.um_words.specs.CellActs.{memory_takes_act}
+use Rattle.um_machine.specs.Order.{to_thread}
+use Rattle.um_words.specs.CellActs.{memory_takes}
+use Rattle.um_fine.specs.Memory.{memory_says}
+use Rattle.um_refinement.specs.Threads.{is_ending}
 use Rattle.um_refinement.specs.Offers as O
 use Rattle.um_refinement.proofs.CallSteps.{Proper}
 use Rattle.um_refinement.proofs.CallsProper.{AreProper}
 use Rattle.um_refinement.proofs.HeapSteps.{heap-sort}
 use Rattle.um_refinement.proofs.IdleComplete.{past}
+use Rattle.um_refinement.proofs.Kept.{clock-sort, joins-sort}
+use Rattle.um_refinement.proofs.Offered.{own-unless, runs-first}
 use Rattle.um_refinement.proofs.ListSingles.{AreSingle, is_single, shows_single}
 use Rattle.um_refinement.proofs.MemoryPart.{InDomains}
 use Rattle.um_refinement.proofs.MemorySteps.{memory-sort, part-total}
@@ -15,7 +21,7 @@ use Rattle.um_refinement.proofs.ObjectsKept.{found-below}
 use Rattle.um_refinement.proofs.Reachable.{IsSound}
 use Rattle.um_refinement.proofs.RowStands.{claimed-stands, held-claimed, live-stands}
 use Rattle.um_refinement.proofs.RowSteps.{thread-sort}
-use Rattle.um_refinement.proofs.StepsLeft.{is_first, offered-left, offered-on}
+use Rattle.um_refinement.proofs.StepsLeft.{is_first, offered-awake, offered-left, offered-on}
 use Rattle.um_refinement.proofs.Stuck as S
 use Rattle.um_refinement.proofs.Stuck.{HasRoom, domain-is, row-is}
 use Rattle.um_refinement.proofs.WorkSteps.{object-sort}
@@ -27,52 +33,16 @@ pub record EventsStand (f : Fine) : Type 0 where
   pub single : (k : ℕ) → k < f.cpus → AreSingle (f.processors k).todo
   pub clears : (k : ℕ) (a : Addr) (rest : Steps) (todo : Todos) → k < f.cpus → (f.processors k).todo ≡ Todo.show (Pending.ClearInit a) rest ∷ todo → is_free (row f (row_named f.image a)).stage ≡ false
 
+-- in no thread's steps is the drops of an end in front of anything but a clearing
+abbrev pub AreOrderly : State → Type 0
+AreOrderly m = (t : ℕ) → are_orderly (thread_at m t).pending ≡ true
+
 -- a thread that is held moves to a domain, by a step that is next
 abbrev pub IsHeldMove : Fine → ℕ → Pending → Type 0
 IsHeldMove f k (Pending.DomMove d who) = (fails (f.processors k).reply ≡ false) × ((word f who.0).held ≡ true)
 IsHeldMove f k q = ⊥
 
--- The domain that an edit or a move names is one of the image's.
-
-abbrev pub InImage : ℕ → Pending → Type 0
-InImage n (Pending.DomInit d parts) = d < n
-InImage n (Pending.DomAdd d range attr) = d < n
-InImage n (Pending.DomRemove d range attr) = d < n
-InImage n (Pending.DomMove d who) = d < n
-InImage n q = Unit {0}
-
-pub first-in : (image : Image) (checked : List Bool) (q : Pending) (rest : Steps) → Proper image checked (q ∷ rest) → InImage (length image.domains) q
-first-in image checked (Pending.DomInit d parts) rest h = h.0
-first-in image checked (Pending.DomAdd d range attr) rest h = h.0
-first-in image checked (Pending.DomRemove d range attr) rest h = h.0
-first-in image checked (Pending.DomMove d who) rest h = h.0
-first-in image checked q rest h = tt
-
-pub edit-in : (n d : ℕ) (q : Pending) → edits_step d q ≡ true → InImage n q → d < n
-edit-in n d (Pending.DomInit e parts) h l = let same = eqb-true d e h in omega (arith, same, l)
-edit-in n d (Pending.DomAdd e range attr) h l = let same = eqb-true d e h in omega (arith, same, l)
-edit-in n d (Pending.DomRemove e range attr) h l = let same = eqb-true d e h in omega (arith, same, l)
-edit-in n d q h l = absurd (false≢true h)
-
--- an access that is allowed, or a fault
-either-taken : (image : Image) (bs : Bytes) (moved : Exchange) (good bad : Act) (b : Bool) → memory_takes_act (memory_says_act image bs moved good) ≡ true
-    → memory_takes_act (memory_says_act image bs moved bad) ≡ true → memory_takes_act (memory_says_act image bs moved (if b then good else bad)) ≡ true
-either-taken image bs moved good bad true h k = h
-either-taken image bs moved good bad false h k = k
-
--- a thread that was started and hasn't ended lives
-living : (life : Life) → is_started life ≡ true → is_ended life ≡ false → is_living life ≡ true
-living Life.Unborn s e = s
-living Life.Living s e = refl
-living Life.Ended s e = sym e
-
--- an object that is reserved stands before the end of its list
-inside-objects : (os : List Object) (x : ℕ) → is_reserved (slice_index_or os x vacant).status ≡ true → x < length os
-inside-objects [] x h = absurd (false≢true h)
-inside-objects (o ∷ os) zero h = omega arith
-inside-objects (o ∷ os) (suc x) h = let l = inside-objects os x h in omega (arith, l)
-
-module _ (f : Fine) (m : State) (rel : Rel f m) (proper : AreProper m.image m) (all : InDomains f m) (sound : IsSound m) (room : HasRoom f) (events : EventsStand f) where
+module _ (f : Fine) (m : State) (rel : Rel f m) (proper : AreProper m.image m) (all : InDomains f m) (sound : IsSound m) (room : HasRoom f) (events : EventsStand f) (orderly : AreOrderly m) where
   -- At the word of the thread.
 
   own-word : (k : ℕ) → f.sites (Site.thread (f.processors k).context.thread) ≡ SiteState.thread (word f (f.processors k).context.thread)
@@ -84,69 +54,91 @@ module _ (f : Fine) (m : State) (rel : Rel f m) (proper : AreProper m.image m) (
   fits-at : (k : ℕ) (q : Pending) (rest : Steps) (todo : Todos) → IsHalted f k → (f.processors k).todo ≡ Todo.show q rest ∷ todo → IsOffered f.image (f.processors k).context q rest
   fits-at k q rest todo l at = (subst (Fits f.image (f.processors k).context) at (rel.processors k l.inside).list.fits).0
 
-  is-of : (k : ℕ) (q : Pending) (rest : Steps) (todo : Todos) → IsHalted f k → (f.processors k).todo ≡ Todo.show q rest ∷ todo → IsOf m (f.processors k).context
-  is-of k q rest todo l at = (rel.contexts.running k l.inside (ap has_steps at)).of (offered-on f.image (f.processors k).context q rest (fits-at k q rest todo l at))
+  run-at : (k : ℕ) (q : Pending) (rest : Steps) (todo : Todos) → IsHalted f k → (f.processors k).todo ≡ Todo.show q rest ∷ todo → runs (f.processors k) ≡ true
+  run-at k q rest todo l at = runs-first rel l.inside (Todo.show q rest) todo at (λ hand. hand)
 
-  proper-at : (k : ℕ) → IsOf m (f.processors k).context → (steps : Steps) → (f.processors k).context.pending ≡ steps → Proper m.image (thread_at m (f.processors k).context.thread).checked steps
-  proper-at k of steps e =
-      subst (Proper m.image (thread_at m (f.processors k).context.thread).checked) (sym (ap (λ (z : Thread). z.pending) of.own) ∙ e) (proper (f.processors k).context.thread).0
+  is-of : (k : ℕ) (q : Pending) (rest : Steps) (todo : Todos) → IsHalted f k → (f.processors k).todo ≡ Todo.show q rest ∷ todo → IsOf f m (f.processors k).context
+  is-of k q rest todo l at = (rel.contexts.running k l.inside (run-at k q rest todo l at)).of (offered-on f.image (f.processors k).context q rest (fits-at k q rest todo l at))
+
+  awake-at : (k : ℕ) (q : Pending) (rest : Steps) (todo : Todos) → IsHalted f k → (f.processors k).todo ≡ Todo.show q rest ∷ todo → waits (q ∷ rest) ≡ false → waits (f.processors k).context.pending ≡ false
+  awake-at k q rest todo l at awake = offered-awake f.image (f.processors k).context q rest (fits-at k q rest todo l at) awake
+
+  proper-at : (k : ℕ) → IsOf f m (f.processors k).context → waits (f.processors k).context.pending ≡ false → (steps : Steps) → (f.processors k).context.pending ≡ steps → Proper m.image (thread_at m (f.processors k).context.thread).checked steps
+  proper-at k of awake steps e =
+      subst (Proper m.image (thread_at m (f.processors k).context.thread).checked) (sym (ap (λ (z : Thread). z.pending) (own-unless of awake)) ∙ e) (proper (f.processors k).context.thread).0
 
   -- the steps from one that is offered on
-  proper-from : (k : ℕ) → IsOf m (f.processors k).context → (q : Pending) (rest : Steps) → IsOffered f.image (f.processors k).context q rest → is_first q ≡ false
+  proper-from : (k : ℕ) → IsOf f m (f.processors k).context → waits (f.processors k).context.pending ≡ false → (q : Pending) (rest : Steps) → IsOffered f.image (f.processors k).context q rest → is_first q ≡ false
       → Proper m.image (thread_at m (f.processors k).context.thread).checked (q ∷ rest)
-  proper-from k of q rest offered other =
+  proper-from k of awake q rest offered other =
       offered-left f.image (f.processors k).context (Proper m.image (thread_at m (f.processors k).context.thread).checked) (λ who rest h. h.1) (λ from rest h. h)
-      (proper-at k of (f.processors k).context.pending refl) q rest (λ on is. absurd (true≢false (sym is ∙ other))) offered
+      (proper-at k of awake (f.processors k).context.pending refl) q rest (λ on is. absurd (true≢false (sym is ∙ other))) offered
 
-  proper-next : (k : ℕ) (q : Pending) (rest : Steps) (todo : Todos) → IsHalted f k → (f.processors k).todo ≡ Todo.show q rest ∷ todo → is_first q ≡ false
+  proper-next : (k : ℕ) (q : Pending) (rest : Steps) (todo : Todos) → IsHalted f k → (f.processors k).todo ≡ Todo.show q rest ∷ todo → is_first q ≡ false → waits (q ∷ rest) ≡ false
       → Proper m.image (thread_at m (f.processors k).context.thread).checked (q ∷ rest)
-  proper-next k q rest todo l at other = proper-from k (is-of k q rest todo l at) q rest (fits-at k q rest todo l at) other
+  proper-next k q rest todo l at other awake = proper-from k (is-of k q rest todo l at) (awake-at k q rest todo l at awake) q rest (fits-at k q rest todo l at) other
 
   -- a thread that begins or exits is at rest, and hasn't ended
-  begins-at : (k : ℕ) (rest : Steps) → IsOf m (f.processors k).context → IsOffered f.image (f.processors k).context Pending.Begin rest
+  begins-at : (k : ℕ) (rest : Steps) → IsOf f m (f.processors k).context → waits (f.processors k).context.pending ≡ false → IsOffered f.image (f.processors k).context Pending.Begin rest
       → ((f.processors k).context.ended ≡ false) × (is_some (instruction_at f.image (f.processors k).context.place) ≡ true)
-  begins-at k rest of (O.goes e) = absurd (proper-at k of (Pending.Begin ∷ rest) e)
-  begins-at k rest of (O.passed {who} e) = absurd (proper-at k of (Pending.Inherit who ∷ Pending.Begin ∷ rest) e).0
-  begins-at k rest of (O.dropped {from} e) = absurd (proper-at k of (Pending.Drops from ∷ Pending.Begin ∷ rest) e)
-  begins-at k _ of (O.begins e on i) = (on, i)
+  begins-at k rest of awake (O.goes e) = absurd (proper-at k of awake (Pending.Begin ∷ rest) e)
+  begins-at k rest of awake (O.passed {who} e) = absurd (proper-at k of awake (Pending.Inherit who ∷ Pending.Begin ∷ rest) e).0
+  begins-at k rest of awake (O.dropped {from} e) = absurd (proper-at k of awake (Pending.Drops from ∷ Pending.Begin ∷ rest) e)
+  begins-at k _ of awake (O.begins e on i) = (on, i)
 
-  exits-at : (k : ℕ) (rest : Steps) → IsOf m (f.processors k).context → IsOffered f.image (f.processors k).context Pending.Exit rest → (f.processors k).context.ended ≡ false
-  exits-at k rest of (O.goes e) = absurd (proper-at k of (Pending.Exit ∷ rest) e)
-  exits-at k rest of (O.passed {who} e) = absurd (proper-at k of (Pending.Inherit who ∷ Pending.Exit ∷ rest) e).0
-  exits-at k rest of (O.dropped {from} e) = absurd (proper-at k of (Pending.Drops from ∷ Pending.Exit ∷ rest) e)
-  exits-at k _ of (O.exits e on i) = on
+  exits-at : (k : ℕ) (rest : Steps) → IsOf f m (f.processors k).context → waits (f.processors k).context.pending ≡ false → IsOffered f.image (f.processors k).context Pending.Exit rest → (f.processors k).context.ended ≡ false
+  exits-at k rest of awake (O.goes e) = absurd (proper-at k of awake (Pending.Exit ∷ rest) e)
+  exits-at k rest of awake (O.passed {who} e) = absurd (proper-at k of awake (Pending.Inherit who ∷ Pending.Exit ∷ rest) e).0
+  exits-at k rest of awake (O.dropped {from} e) = absurd (proper-at k of awake (Pending.Drops from ∷ Pending.Exit ∷ rest) e)
+  exits-at k _ of awake (O.exits e on i) = on
 
-  lives : (k : ℕ) → IsOf m (f.processors k).context → (f.processors k).context.ended ≡ false → is_living (word f (f.processors k).context.thread).life ≡ true
+  lives : (k : ℕ) → IsOf f m (f.processors k).context → (f.processors k).context.ended ≡ false → is_living (word f (f.processors k).context.thread).life ≡ true
   lives k of on =
       ap is_living (rel.threads (f.processors k).context.thread of.index).word.life
       ∙ living (thread_at m (f.processors k).context.thread).life of.started (sym of.ended ∙ on)
 
+  -- the word of a thread with these flags
+  flagged-word : (k : ℕ) (doomed aborted suspended : Bool) → (word f (f.processors k).context.thread).doomed ≡ doomed → (word f (f.processors k).context.thread).aborted ≡ aborted
+      → (word f (f.processors k).context.thread).suspended ≡ suspended
+      → f.sites (Site.thread (f.processors k).context.thread) ≡ SiteState.thread (record (word f (f.processors k).context.thread) { doomed = doomed; aborted = aborted; suspended = suspended })
+  flagged-word k doomed aborted suspended e g h =
+      own-word k ∙ (λ i. SiteState.thread (record (word f (f.processors k).context.thread) { doomed = e i; aborted = g i; suspended = h i }))
+
   begin : (k : ℕ) (rest : Steps) (todo : Todos) → IsHalted f k → (f.processors k).todo ≡ Todo.show Pending.Begin rest ∷ todo → ⊥
-  begin k rest todo l at = by (word f (f.processors k).context.thread).doomed refl
+  begin k rest todo l at = by (word f t).doomed refl (word f t).aborted refl (word f t).suspended refl
     where
-      of : IsOf m (f.processors k).context
+      t : ℕ
+      t = (f.processors k).context.thread
+
+      of : IsOf f m (f.processors k).context
       of = is-of k Pending.Begin rest todo l at
 
       facts : ((f.processors k).context.ended ≡ false) × (is_some (instruction_at f.image (f.processors k).context.place) ≡ true)
-      facts = begins-at k rest of (fits-at k Pending.Begin rest todo l at)
+      facts = begins-at k rest of (awake-at k Pending.Begin rest todo l at refl) (fits-at k Pending.Begin rest todo l at)
 
-      by : (b : Bool) → (word f (f.processors k).context.thread).doomed ≡ b → ⊥
-      by true e =
-          S.refused f m rel room k l at (own-word k ∙ (λ i. SiteState.thread (record (word f (f.processors k).context.thread) { doomed = e i }))) tt (λ i. counted k i && true) facts.1
-      by false e =
-          S.refused f m rel room k l at (own-word k ∙ (λ i. SiteState.thread (record (word f (f.processors k).context.thread) { doomed = e i }))) tt (λ i. counted k i && (lives k of facts.0 i && true)) facts.1
+      by : (d : Bool) → (word f t).doomed ≡ d → (a : Bool) → (word f t).aborted ≡ a → (s : Bool) → (word f t).suspended ≡ s → ⊥
+      by true e a g s h = S.refused f m rel room k l at (flagged-word k true a s e g h) tt (λ i. counted k i && true) facts.1
+      by false e true g s h = S.refused f m rel room k l at (flagged-word k false true s e g h) tt (λ i. counted k i && (lives k of facts.0 i && true)) facts.1
+      by false e false g true h = S.refused f m rel room k l at (flagged-word k false false true e g h) tt (λ i. counted k i && true) facts.1
+      by false e false g false h = S.refused f m rel room k l at (flagged-word k false false false e g h) tt (λ i. counted k i && (lives k of facts.0 i && true)) facts.1
 
   exit : (k : ℕ) (rest : Steps) (todo : Todos) → IsHalted f k → (f.processors k).todo ≡ Todo.show Pending.Exit rest ∷ todo → ⊥
-  exit k rest todo l at = by (word f (f.processors k).context.thread).doomed refl
+  exit k rest todo l at = by (word f t).doomed refl (word f t).aborted refl (word f t).suspended refl
     where
-      of : IsOf m (f.processors k).context
+      t : ℕ
+      t = (f.processors k).context.thread
+
+      of : IsOf f m (f.processors k).context
       of = is-of k Pending.Exit rest todo l at
 
-      by : (b : Bool) → (word f (f.processors k).context.thread).doomed ≡ b → ⊥
-      by true e =
-          S.refused f m rel room k l at (own-word k ∙ (λ i. SiteState.thread (record (word f (f.processors k).context.thread) { doomed = e i }))) tt (λ i. counted k i && true) refl
-      by false e =
-          S.refused f m rel room k l at (own-word k ∙ (λ i. SiteState.thread (record (word f (f.processors k).context.thread) { doomed = e i }))) tt (λ i. counted k i && (lives k of (exits-at k rest of (fits-at k Pending.Exit rest todo l at)) i && true)) refl
+      on : (f.processors k).context.ended ≡ false
+      on = exits-at k rest of (awake-at k Pending.Exit rest todo l at refl) (fits-at k Pending.Exit rest todo l at)
+
+      by : (d : Bool) → (word f t).doomed ≡ d → (a : Bool) → (word f t).aborted ≡ a → (s : Bool) → (word f t).suspended ≡ s → ⊥
+      by true e a g s h = S.refused f m rel room k l at (flagged-word k true a s e g h) tt (λ i. counted k i && true) refl
+      by false e true g s h = S.refused f m rel room k l at (flagged-word k false true s e g h) tt (λ i. counted k i && (lives k of on i && true)) refl
+      by false e false g true h = S.refused f m rel room k l at (flagged-word k false false true e g h) tt (λ i. counted k i && true) refl
+      by false e false g false h = S.refused f m rel room k l at (flagged-word k false false false e g h) tt (λ i. counted k i && (lives k of on i && true)) refl
 
   -- A check, at the word of a row or, where no object has that address, at its own.
   check : (k : ℕ) (a : Addr) (kind : Option Kind) (want : Want) (refusal : Refusal) (rest : Steps) (todo : Todos) → IsHalted f k
@@ -171,13 +163,14 @@ module _ (f : Fine) (m : State) (rel : Rel f m) (proper : AreProper m.image m) (
   pub offered-in : (k : ℕ) (q : Pending) (rest : Steps) → IsHalted f k → runs (f.processors k) ≡ true → IsOffered f.image (f.processors k).context q rest → InImage (length f.image.domains) q
   offered-in k q rest l run offered = subst (λ (i : Image). InImage (length i.domains) q) rel.image (by q rest offered)
     where
-      of : IsOf m (f.processors k).context
+      of : IsOf f m (f.processors k).context
       of = (rel.contexts.running k l.inside run).of (offered-on f.image (f.processors k).context q rest offered)
 
       by : (q : Pending) (rest : Steps) → IsOffered f.image (f.processors k).context q rest → InImage (length m.image.domains) q
       by Pending.Begin rest o = tt
       by Pending.Exit rest o = tt
-      by q rest o = first-in m.image (thread_at m (f.processors k).context.thread).checked q rest (proper-from k of q rest o refl)
+      by Pending.Resume rest o = tt
+      by q rest o = first-in m.image (thread_at m (f.processors k).context.thread).checked q rest (proper-from k of (offered-awake f.image (f.processors k).context q rest o refl) q rest o refl)
 
   -- that of a thread which is held
   pub own-domain : (k : ℕ) → IsHalted f k → runs (f.processors k) ≡ true → has_held (f.processors k) ≡ true → (f.processors k).domain < length f.image.domains
@@ -194,7 +187,7 @@ module _ (f : Fine) (m : State) (rel : Rel f m) (proper : AreProper m.image m) (
   edits-it : (k d : ℕ) (q : Pending) (rest : Steps) (todo : Todos) → IsHalted f k → (f.processors k).todo ≡ Todo.show q rest ∷ todo → edits_step d q ≡ true
       → (nat_lt (domain f d).number 268435455 && ((domain f d).writer && nat_lt (domain f d).version 1048575)) ≡ true
   edits-it k d q rest todo l at h =
-      let few = edit-in (length f.image.domains) d q h (offered-in k q rest l (ap has_steps at) (fits-at k q rest todo l at)) in
+      let few = edit-in (length f.image.domains) d q h (offered-in k q rest l (run-at k q rest todo l at) (fits-at k q rest todo l at)) in
       let part = part-total (λ j. one_if (edits d (f.processors j).todo)) f.cpus k l.inside in
       let mine : one_if (edits d (f.processors k).todo) ≡ 1 = ap (λ (z : Todos). one_if (edits d z)) at ∙ ap one_if h in
       let sum = (rel.domains d few).writers in
@@ -208,7 +201,7 @@ module _ (f : Fine) (m : State) (rel : Rel f m) (proper : AreProper m.image m) (
   move k d who rest todo l at = by (fails (f.processors k).reply) refl (word f who.0).held refl
     where
       few : d < length f.image.domains
-      few = offered-in k (Pending.DomMove d who) rest l (ap has_steps at) (fits-at k (Pending.DomMove d who) rest todo l at)
+      few = offered-in k (Pending.DomMove d who) rest l (run-at k (Pending.DomMove d who) rest todo l at) (fits-at k (Pending.DomMove d who) rest todo l at)
 
       none-if : (o : Option Partitions) (reply : Reply) → reply ≡ move_reply o → fails reply ≡ true → is_some o ≡ false
       none-if None reply e h = refl
@@ -248,7 +241,7 @@ module _ (f : Fine) (m : State) (rel : Rel f m) (proper : AreProper m.image m) (
       let behind = (subst (Fits f.image p.context) at (rel.processors k l.inside).list.fits).1 in
       let list : p.todo ≡ Todo.show q rest ∷ Todo.let_go ∷ Todo.add (newborn f.image p.context q) ∷ [] = at ∙ ap (λ (z : Todos). Todo.show q rest ∷ z) behind in
       let held : has_held p ≡ true = ap (λ (z : Todos). list_any is_let_go z && not (list_any is_hold z)) list in
-      let few = own-domain k l (ap has_steps at) held in
+      let few = own-domain k l (run-at k q rest todo l at) held in
       let most = room.domains in
       let below = lt-ltb p.domain DOMAINS (omega (arith, few, most)) in
       let is = thread-sort who.0 (f.sites (Site.thread who.0)) (rel.sorts (Site.thread who.0)) in
@@ -258,25 +251,25 @@ module _ (f : Fine) (m : State) (rel : Rel f m) (proper : AreProper m.image m) (
   -- Rows: a permission is given of an object that the call holds, or that is static; one that is published or marked as initialised is held
   -- too; and an object is born at a row that was reserved.
 
-  guarded-at : (k : ℕ) → IsOf m (f.processors k).context → (steps : Steps) → (f.processors k).context.pending ≡ steps
+  guarded-at : (k : ℕ) → IsOf f m (f.processors k).context → waits (f.processors k).context.pending ≡ false → (steps : Steps) → (f.processors k).context.pending ≡ steps
       → Guarded m.image (thread_at m (f.processors k).context.thread).checked (behind_birth steps)
-  guarded-at k of steps e =
+  guarded-at k of awake steps e =
       let t = (f.processors k).context.thread in
-      subst (λ (z : Steps). Guarded m.image (thread_at m t).checked (behind_birth z)) (sym (ap (λ (z : Thread). z.pending) of.own) ∙ e)
+      subst (λ (z : Steps). Guarded m.image (thread_at m t).checked (behind_birth z)) (sym (ap (λ (z : Thread). z.pending) (own-unless of awake)) ∙ e)
       (subst (λ (call : Call). Guarded m.image call.checked (behind_birth call.pending)) (call_is m t) (sound.known.reached.guarded t))
 
-  guarded-next : (k : ℕ) (q : Pending) (rest : Steps) (todo : Todos) → IsHalted f k → (f.processors k).todo ≡ Todo.show q rest ∷ todo → is_first q ≡ false
+  guarded-next : (k : ℕ) (q : Pending) (rest : Steps) (todo : Todos) → IsHalted f k → (f.processors k).todo ≡ Todo.show q rest ∷ todo → is_first q ≡ false → waits (q ∷ rest) ≡ false
       → Guarded m.image (thread_at m (f.processors k).context.thread).checked (behind_birth (q ∷ rest))
-  guarded-next k q rest todo l at other =
+  guarded-next k q rest todo l at other awake =
       let checked = (thread_at m (f.processors k).context.thread).checked in
       offered-left f.image (f.processors k).context (λ steps. Guarded m.image checked (behind_birth steps)) (λ who rest h. all_behind m.image checked rest h) (λ from rest h. all_behind m.image checked rest h)
-      (guarded-at k (is-of k q rest todo l at) (f.processors k).context.pending refl) q rest (λ on is. absurd (true≢false (sym is ∙ other))) (fits-at k q rest todo l at)
+      (guarded-at k (is-of k q rest todo l at) (awake-at k q rest todo l at awake) (f.processors k).context.pending refl) q rest (λ on is. absurd (true≢false (sym is ∙ other))) (fits-at k q rest todo l at)
 
-  born-next : (k : ℕ) (a : Addr) (rest : Steps) → IsOf m (f.processors k).context → IsOffered f.image (f.processors k).context (Pending.Born a) rest
+  born-next : (k : ℕ) (a : Addr) (rest : Steps) → IsOf f m (f.processors k).context → waits (f.processors k).context.pending ≡ false → IsOffered f.image (f.processors k).context (Pending.Born a) rest
       → bearing (thread_at m (f.processors k).context.thread).pending ≡ Some a.0
-  born-next k a rest of (O.goes e) = ap bearing (sym (ap (λ (z : Thread). z.pending) of.own) ∙ e)
-  born-next k a rest of (O.passed {who = w} e) = absurd (proper-at k of (Pending.Inherit w ∷ Pending.Born a ∷ rest) e).0
-  born-next k a rest of (O.dropped {from} e) = absurd (guarded-at k of (Pending.Drops from ∷ Pending.Born a ∷ rest) e)
+  born-next k a rest of awake (O.goes e) = ap bearing (sym (ap (λ (z : Thread). z.pending) (own-unless of awake)) ∙ e)
+  born-next k a rest of awake (O.passed {who = w} e) = absurd (proper-at k of awake (Pending.Inherit w ∷ Pending.Born a ∷ rest) e).0
+  born-next k a rest of awake (O.dropped {from} e) = absurd (guarded-at k of awake (Pending.Drops from ∷ Pending.Born a ∷ rest) e)
 
   -- the row of a reserved object is free
   reserved-free : (x : ℕ) → x < ROWS → (object_at m x).status ≡ Status.Reserved → is_free (row f x).stage ≡ true
@@ -314,12 +307,12 @@ module _ (f : Fine) (m : State) (rel : Rel f m) (proper : AreProper m.image m) (
       → (x : ℕ) × (f.sites (Site.row (row_named f.image a)) ≡ SiteState.row (row f x)) × ((nat_lt (row f x).number 1048575 && not (is_free (row f x).stage)) ≡ true)
   held-row k q rest todo l at a names =
       let x = names.0 in
-      let claimed = held-claimed f m rel sound k l.inside (ap has_steps at) (on-of k q rest todo l at) x names.2 in
+      let claimed = held-claimed f m rel sound k l.inside (run-at k q rest todo l at) (on-of k q rest todo l at) x names.2 in
       let stands = claimed-stands f m rel sound x claimed.0 claimed.1 in
       (x, ap (λ n. f.sites (Site.row n)) (named-row a x names.1) ∙ row-word x, λ i. row-counted x i && not (stands.0 i))
 
   own : (k : ℕ) (who : ThreadIx) (rest : Steps) (todo : Todos) → IsHalted f k → (f.processors k).todo ≡ Todo.show (Pending.Own who) rest ∷ todo → ⊥
-  own k who rest todo l at = by (guarded-next k (Pending.Own who) rest todo l at refl).0
+  own k who rest todo l at = by (guarded-next k (Pending.Own who) rest todo l at refl refl).0
     where
       refused : (x : ℕ) → x < ROWS → own_row f.image who.0 ≡ x → (is_free (row f x).stage ≡ false) × (is_cleaning (row f x).stage ≡ false) → ⊥
       refused x low same stands =
@@ -336,13 +329,13 @@ module _ (f : Fine) (m : State) (rel : Rel f m) (proper : AreProper m.image m) (
           refused (own_row m.image who.0) few same-own
           (live-stands f m rel sound (own_row m.image who.0) few (ap Plain.is_live (sym (status_is m (own_row m.image who.0))) ∙ sound.known.reached.static (own_row m.image who.0) static))
       by (inr held) =
-          let claimed = held-claimed f m rel sound k l.inside (ap has_steps at) (on-of k (Pending.Own who) rest todo l at) (own_row m.image who.0) held.1 in
+          let claimed = held-claimed f m rel sound k l.inside (run-at k (Pending.Own who) rest todo l at) (on-of k (Pending.Own who) rest todo l at) (own_row m.image who.0) held.1 in
           refused (own_row m.image who.0) claimed.0 same-own (claimed-stands f m rel sound (own_row m.image who.0) claimed.0 claimed.1)
 
   born : (k : ℕ) (a : Addr) (rest : Steps) (todo : Todos) → IsHalted f k → (f.processors k).todo ≡ Todo.show (Pending.Born a) rest ∷ todo → ⊥
   born k a rest todo l at =
       let t = (f.processors k).context.thread in
-      let next = born-next k a rest (is-of k (Pending.Born a) rest todo l at) (fits-at k (Pending.Born a) rest todo l at) in
+      let next = born-next k a rest (is-of k (Pending.Born a) rest todo l at) (awake-at k (Pending.Born a) rest todo l at refl) (fits-at k (Pending.Born a) rest todo l at) in
       let reserved = sound.known.reached.reserved t a.0 (ap (λ (call : Call). bearing call.pending) (call_is m t) ∙ next) in
       let x = reserved.0 in
       let is : (object_at m x).status ≡ Status.Reserved = sym (status_is m x) ∙ reserved.2 in
@@ -356,6 +349,11 @@ module _ (f : Fine) (m : State) (rel : Rel f m) (proper : AreProper m.image m) (
   abbrev at-memory : (n : ℕ) × (f.sites Site.memory ≡ SiteState.cell n (Cell.memory (bytes f)))
   at-memory = memory-sort (f.sites Site.memory) (rel.sorts Site.memory)
 
+  -- what it takes of an act of a processor's thread
+  abbrev at-taken : ℕ → Act → Bool
+  at-taken k act =
+      memory_takes (memory_says f.image (bytes f) Exchange.nothing (FineAct.Shown (record { thread = to_thread (f.processors k).context.thread; act = act }) More.Nothing))
+
   on-memory : nat_lt at-memory.0 268435455 ≡ true
   on-memory = S.counts f m rel room Site.memory (SiteState.cell at-memory.0 (Cell.memory (bytes f))) at-memory.1
 
@@ -364,6 +362,48 @@ module _ (f : Fine) (m : State) (rel : Rel f m) (proper : AreProper m.image m) (
 
   on-object : (x : ℕ) → nat_lt (object-sort x (f.sites (Site.object x)) (rel.sorts (Site.object x))).0 268435455 ≡ true
   on-object x = let is = object-sort x (f.sites (Site.object x)) (rel.sorts (Site.object x)) in S.counts f m rel room (Site.object x) _ is.1
+
+  on-clock : nat_lt (clock-sort (f.sites Site.clock) (rel.sorts Site.clock)).0 268435455 ≡ true
+  on-clock = let is = clock-sort (f.sites Site.clock) (rel.sorts Site.clock) in S.counts f m rel room Site.clock _ is.1
+
+  on-joins : nat_lt (joins-sort (f.sites Site.joins) (rel.sorts Site.joins)).0 268435455 ≡ true
+  on-joins = let is = joins-sort (f.sites Site.joins) (rel.sorts Site.joins) in S.counts f m rel room Site.joins _ is.1
+
+  -- the word of another thread
+  other-word : (t : ℕ) → f.sites (Site.thread t) ≡ SiteState.thread (word f t)
+  other-word t = thread-sort t (f.sites (Site.thread t)) (rel.sorts (Site.thread t))
+
+  other-counted : (t : ℕ) → nat_lt (word f t).number 268435455 ≡ true
+  other-counted t = S.counts f m rel room (Site.thread t) (SiteState.thread (word f t)) (other-word t)
+
+  -- who is killed lives, and is aborted
+  killed : (k : ℕ) (rest : Steps) (todo : Todos) → IsHalted f k → (f.processors k).todo ≡ Todo.show Pending.Killed rest ∷ todo → ⊥
+  killed k rest todo l at = S.refused f m rel room k l at (own-word k) tt (λ i. counted k i && (lives k of on i && aborted i)) refl
+    where
+      of : IsOf f m (f.processors k).context
+      of = is-of k Pending.Killed rest todo l at
+
+      awake : waits (f.processors k).context.pending ≡ false
+      awake = awake-at k Pending.Killed rest todo l at refl
+
+      pending : (f.processors k).context.pending ≡ Pending.Killed ∷ []
+      pending = by rest (fits-at k Pending.Killed rest todo l at)
+        where
+          by : (rest : Steps) → IsOffered f.image (f.processors k).context Pending.Killed rest → (f.processors k).context.pending ≡ Pending.Killed ∷ []
+          by rest (O.goes e) = e ∙ ap (λ z. Pending.Killed ∷ z) (proper-at k of awake (Pending.Killed ∷ rest) e)
+          by rest (O.passed {who} e) = absurd (proper-at k of awake (Pending.Inherit who ∷ Pending.Killed ∷ rest) e).0
+          by rest (O.dropped {from} e) =
+              absurd (false≢true (sym (ap are_orderly (sym (ap (λ (z : Thread). z.pending) (own-unless of awake)) ∙ e)) ∙ orderly (f.processors k).context.thread))
+
+      on : (f.processors k).context.ended ≡ false
+      on = which (f.processors k).context.ended refl
+        where
+          which : (b : Bool) → (f.processors k).context.ended ≡ b → b ≡ false
+          which false e = refl
+          which true e = absurd (false≢true (sym (ap (list_all is_ending) pending) ∙ (rel.processors k l.inside).domain.ends e))
+
+      aborted : (word f (f.processors k).context.thread).aborted ≡ true
+      aborted = (rel.threads (f.processors k).context.thread of.index).cut.aborted (sym (ap (λ (z : Thread). z.pending) (own-unless of awake)) ∙ pending)
 
   clear : (k : ℕ) (a : Addr) (rest : Steps) (todo : Todos) → IsHalted f k → (f.processors k).todo ≡ Todo.show (Pending.ClearInit a) rest ∷ todo → ⊥
   clear k a rest todo l at =
@@ -383,16 +423,16 @@ module _ (f : Fine) (m : State) (rel : Rel f m) (proper : AreProper m.image m) (
   guarded k (Pending.Load to a n) rest todo l at =
       absurd
       (S.refused f m rel room k l at at-memory.1 tt
-      (λ i. on-memory i && either-taken f.image (bytes f) Exchange.nothing (Act.Load a n 0) (Act.Fault Access.Read a n) (allows f.image (f.processors k) Access.Read a.0 n) refl refl i)
+      (λ i. on-memory i && either-taken (at-taken k) (Act.Load a n 0) (Act.Fault Access.Read a n) (allows f.image (f.processors k) Access.Read a.0 n) refl refl i)
       (le-leb n 4 (room.loads k to a n rest todo l.inside at)))
   guarded k (Pending.Store a n value) rest todo l at =
       absurd
       (S.refused f m rel room k l at at-memory.1 tt
-      (λ i. on-memory i && either-taken f.image (bytes f) Exchange.nothing (Act.Store a n value) (Act.Fault Access.Write a n) (allows f.image (f.processors k) Access.Write a.0 n) refl refl i) refl)
+      (λ i. on-memory i && either-taken (at-taken k) (Act.Store a n value) (Act.Fault Access.Write a n) (allows f.image (f.processors k) Access.Write a.0 n) refl refl i) refl)
   guarded k (Pending.Fetch a) rest todo l at =
       absurd
       (S.refused f m rel room k l at at-memory.1 tt
-      (λ i. on-memory i && either-taken f.image (bytes f) Exchange.nothing (Act.Fetch a) (Act.Fault Access.Exec a 4) (allows f.image (f.processors k) Access.Exec a.0 4) refl refl i) refl)
+      (λ i. on-memory i && either-taken (at-taken k) (Act.Fetch a) (Act.Fault Access.Exec a 4) (allows f.image (f.processors k) Access.Exec a.0 4) refl refl i) refl)
   guarded k (Pending.Probe a amount) rest todo l at = absurd (S.refused f m rel room k l at at-memory.1 tt (λ i. on-memory i && true) refl)
   guarded k (Pending.CopyIn a amount) rest todo l at = absurd (S.refused f m rel room k l at at-memory.1 tt (λ i. on-memory i && true) refl)
   guarded k (Pending.CopyOut a) rest todo l at = absurd (S.refused f m rel room k l at at-memory.1 tt (λ i. on-memory i && true) refl)
@@ -426,15 +466,29 @@ module _ (f : Fine) (m : State) (rel : Rel f m) (proper : AreProper m.image m) (
   guarded k (Pending.DomMove d who) rest todo l at = move k d who rest todo l at
   guarded k (Pending.Start who script stack priority mode) rest todo l at = absurd (start k who script stack priority mode rest todo l at)
   guarded k (Pending.Grant who a) rest todo l at =
-      let row = held-row k (Pending.Grant who a) rest todo l at a (guarded-next k (Pending.Grant who a) rest todo l at refl).0 in absurd (S.refused f m rel room k l at row.1 tt row.2 refl)
+      let row = held-row k (Pending.Grant who a) rest todo l at a (guarded-next k (Pending.Grant who a) rest todo l at refl refl).0 in absurd (S.refused f m rel room k l at row.1 tt row.2 refl)
   guarded k (Pending.Own who) rest todo l at = absurd (own k who rest todo l at)
   guarded k (Pending.Publish a) rest todo l at =
-      let row = held-row k (Pending.Publish a) rest todo l at a (proper-next k (Pending.Publish a) rest todo l at refl).0 in absurd (S.refused f m rel room k l at row.1 tt row.2 refl)
+      let row = held-row k (Pending.Publish a) rest todo l at a (proper-next k (Pending.Publish a) rest todo l at refl refl).0 in absurd (S.refused f m rel room k l at row.1 tt row.2 refl)
   guarded k (Pending.SetInit a strict undo) rest todo l at =
-      let row = held-row k (Pending.SetInit a strict undo) rest todo l at a (proper-next k (Pending.SetInit a strict undo) rest todo l at refl).0 in absurd (S.refused f m rel room k l at row.1 tt row.2 refl)
+      let row = held-row k (Pending.SetInit a strict undo) rest todo l at a (proper-next k (Pending.SetInit a strict undo) rest todo l at refl refl).0 in absurd (S.refused f m rel room k l at row.1 tt row.2 refl)
   guarded k (Pending.Born a) rest todo l at = absurd (born k a rest todo l at)
-  guarded k (Pending.CleanPair who) rest todo l at = absurd (proper-next k (Pending.CleanPair who) rest todo l at refl)
-  guarded k Pending.Recycle rest todo l at = absurd (proper-next k Pending.Recycle rest todo l at refl)
+  guarded k (Pending.Arm ticks) rest todo l at = absurd (S.refused f m rel room k l at (clock-sort (f.sites Site.clock) (rel.sorts Site.clock)).1 tt (λ i. on-clock i && true) refl)
+  guarded k (Pending.ArmTimer ticks) rest todo l at = absurd (S.refused f m rel room k l at (clock-sort (f.sites Site.clock) (rel.sorts Site.clock)).1 tt (λ i. on-clock i && true) refl)
+  guarded k (Pending.Abort who) rest todo l at = absurd (S.refused f m rel room k l at (other-word who.0) tt (λ i. other-counted who.0 i && true) refl)
+  guarded k (Pending.Suspend who) rest todo l at = absurd (S.refused f m rel room k l at (other-word who.0) tt (λ i. other-counted who.0 i && true) refl)
+  guarded k (Pending.Continue who) rest todo l at = absurd (S.refused f m rel room k l at (other-word who.0) tt (λ i. other-counted who.0 i && true) refl)
+  guarded k Pending.Killed rest todo l at = absurd (killed k rest todo l at)
+  guarded k (Pending.Join who timeout) rest todo l at = absurd (S.refused f m rel room k l at (joins-sort (f.sites Site.joins) (rel.sorts Site.joins)).1 tt (λ i. on-joins i && true) refl)
+  guarded k (Pending.FutexWait a value timeout) rest todo l at = absurd (S.refused f m rel room k l at at-memory.1 tt (λ i. on-memory i && true) refl)
+  guarded k (Pending.FutexWake a every) rest todo l at = absurd (S.refused f m rel room k l at at-memory.1 tt (λ i. on-memory i && true) refl)
+  guarded k Pending.Left rest todo l at = absurd (proper-next k Pending.Left rest todo l at refl refl)
+  guarded k Pending.Tick rest todo l at = absurd (proper-next k Pending.Tick rest todo l at refl refl)
+  guarded k (Pending.TimeOut who) rest todo l at = absurd (proper-next k (Pending.TimeOut who) rest todo l at refl refl)
+  guarded k Pending.Expire rest todo l at = absurd (proper-next k Pending.Expire rest todo l at refl refl)
+  guarded k (Pending.Cut who) rest todo l at = absurd (proper-next k (Pending.Cut who) rest todo l at refl refl)
+  guarded k (Pending.CleanPair who) rest todo l at = absurd (proper-next k (Pending.CleanPair who) rest todo l at refl refl)
+  guarded k Pending.Recycle rest todo l at = absurd (proper-next k Pending.Recycle rest todo l at refl refl)
   guarded k (Pending.ClearInit a) rest todo l at = absurd (clear k a rest todo l at)
   guarded k Pending.Resume rest todo l at = absurd (never k Pending.Resume rest todo l at refl)
   guarded k (Pending.Inherit who) rest todo l at = absurd (never k (Pending.Inherit who) rest todo l at refl)

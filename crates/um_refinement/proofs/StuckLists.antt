@@ -1,6 +1,12 @@
 -- Where a processor can't step, it waits with nothing, a claim of a domain, or an event: a hold is never refused, a claim waits for one that writes or reads its domain, a
--- move for one that holds its thread. Where none can step, no processor has a step left to make: those have steps to make that wait for nobody.
-use Rattle.um_refinement.proofs.Words.{◌≡◌, ◌⊎◌, inl, inr, ℕ, zero, suc, ◌+◌, ◌<◌, ◌≤◌, Bool, true, false, [], ◌∷◌, length, Option, Some, None, refl, sym, ap, ◌∙◌, subst, arith, eq-eqb, ◌==◌, ◌&&◌, ◌||◌, not, nat_lt, list_any, and_parts, eqb-true, false≢true, lt-ltb, ltb-true, true≢false, or-true, THREADS, Reply, ThreadIx, Pending, Steps, is_empty, State, Context, ByOneOf, Todo, Todos, fails, SiteState, Exchange, Site, reads, Fine, domain, one_if, over_processors, word, AreFramed, Behind, access_over, adders, edits, edits_step, has_claimed, has_held, has_steps, is_hold, is_let_go, is_own_claim, is_own_done, moves_step, moves_to, of_thread, runs, runs_thread, Fits, behind_shown, is_over, Rel, IsHalted, IsStuck, runs_on, ⊎_elim, claimed_domain}
+-- move for one that holds its thread. Where none that has a list can step, no processor has a step left to make: those have steps to make that wait for
+-- nobody.
+use Rattle.um_refinement.proofs.Words.{Addr, Image, ROWS, row_at, row_named, unwrap_or, is_some, ◌≡◌, ◌⊎◌, inl, inr, ℕ, zero, suc, ◌+◌, ◌<◌, ◌≤◌, Bool, true, false, [], ◌∷◌, length, Option, Some, None, refl, sym, ap, ◌∙◌, subst, arith, eq-eqb, ◌==◌, ◌&&◌, ◌||◌, not, nat_lt, list_any, and_parts, eqb-true, false≢true, lt-ltb, ltb-true, true≢false, or-true, THREADS, Reply, ThreadIx, Pending, Steps, is_empty, State, Context, ByOneOf, Todo, Todos, fails, SiteState, Exchange, Site, reads, Fine, domain, one_if, over_processors, word, AreFramed, Behind, access_over, adders, edits, edits_step, has_claimed, has_held, has_steps, is_hold, is_let_go, is_own_claim, is_own_done, moves_step, moves_to, of_thread, runs, runs_thread, Fits, behind_shown, is_over, Rel, IsHalted, IsStuck, runs_on, ⊎_elim, claimed_domain}
+use Rattle.um_words.specs.declared.fine.Mark.{Mark}
+use Rattle.um_words.specs.declared.kind.TheConstants.{SITES}
+use Rattle.um_fine.specs.Places.{if_patient, is_patient, may_wait, noted_cell}
+use Rattle.um_refinement.specs.Frames.{IsNoted, IsWaitOver, accesses, acts, arming, both, nothing, rereads, settled}
+use Rattle.um_refinement.proofs.ObjectsKept.{found-below}
 use Rattle.um_refinement.proofs.CallsProper.{AreProper}
 use Rattle.um_refinement.proofs.DomainReads.{memory-edits-none, memory-moves-none}
 use Rattle.um_refinement.proofs.HeldRows.{some-part}
@@ -11,13 +17,22 @@ use Rattle.um_refinement.proofs.RowSteps.{thread-sort}
 use Rattle.um_refinement.proofs.DomainFacts.{two-parts}
 use Rattle.um_refinement.proofs.StepsLeft.{offered-on}
 use Rattle.um_refinement.proofs.Stuck as S
-use Rattle.um_refinement.proofs.StuckEvents.{EventsStand, IsHeldMove, edit-in, guarded, offered-in, own-domain}
+use Rattle.um_refinement.proofs.EventFacts.{edit-in}
+use Rattle.um_refinement.proofs.StuckEvents.{AreOrderly, EventsStand, IsHeldMove, guarded, offered-in, own-domain}
 use Rattle.um_refinement.proofs.Stuck.{HasRoom, domain-is}
 use Rattle.um_refinement.proofs.Sums.{one-true}
 
 -- a grip that hasn't ended: its end is on the list, and its beginning isn't
 abbrev is_between : (Todo → Bool) → (Todo → Bool) → Todos → Bool
 is_between ends begins todo = list_any ends todo && not (list_any begins todo)
+
+-- what isn't a mark to settle or the own word to read again isn't behind an act that is over
+over-lacks : (test : Todo → Bool) → ((deadline : ℕ) (mark : Mark) → test (Todo.settle deadline mark) ≡ false) → ((site : ℕ) → test (Todo.reread site) ≡ false) → {over : Todos} → IsWaitOver over
+    → list_any test over ≡ false
+over-lacks test one two nothing = refl
+over-lacks test one two (settled {deadline} {mark}) = ap (λ b. b || false) (one deadline mark)
+over-lacks test one two (rereads {site}) = ap (λ b. b || false) (two site)
+over-lacks test one two (both {deadline} {mark} {site}) = λ i. one deadline mark i || (two site i || false)
 
 -- an edit is no move
 edits-moves-none : (e d : ℕ) (reply : Reply) (q : Pending) → edits_step e q ≡ true → moves_step d reply q ≡ false
@@ -32,7 +47,7 @@ Waits (Todo.read_claim d ∷ todo) = Unit {0}
 Waits (Todo.write_claim d ∷ todo) = Unit {0}
 Waits todo = ⊥
 
-module _ (f : Fine) (m : State) (rel : Rel f m) (proper : AreProper m.image m) (all : InDomains f m) (sound : IsSound m) (room : HasRoom f) (events : EventsStand f) where
+module _ (f : Fine) (m : State) (rel : Rel f m) (proper : AreProper m.image m) (all : InDomains f m) (sound : IsSound m) (room : HasRoom f) (events : EventsStand f) (orderly : AreOrderly m) where
   fits-at : (k : ℕ) (todo : Todos) → k < f.cpus → (f.processors k).todo ≡ todo → Fits f.image (f.processors k).context todo
   fits-at k todo l at = subst (Fits f.image (f.processors k).context) at (rel.processors k l).list.fits
 
@@ -65,14 +80,15 @@ module _ (f : Fine) (m : State) (rel : Rel f m) (proper : AreProper m.image m) (
       (one.0, one.1, parts.0, parts.1)
 
   offered-behind : (c : Context) (rest : Todos) → Behind f.image Todo.hold rest → Fits f.image c rest → is_over c ≡ false
-  offered-behind c rest (inl (q, steps, at, on)) fit = offered-on f.image c q steps (subst (Fits f.image c) at fit).0
-  offered-behind c rest (inr (q, steps, d, at)) fit = offered-on f.image c q steps (subst (Fits f.image c) at fit).0
+  offered-behind c rest (inl (access, e, (q, steps, over, at, on, done))) fit =
+      offered-on f.image c q steps (subst (Fits f.image c) (e ∙ ap (λ (z : Todos). Todo.read_claim None ∷ Todo.region_load ∷ z) at) fit).0
+  offered-behind c rest (inr (who, start, e, (q, steps, d, at, one))) fit = offered-on f.image c q steps (subst (Fits f.image c) (e ∙ ap (λ (z : Todos). Todo.unshut who ∷ z) at) fit).0
 
   hold : (k : ℕ) (rest : Todos) → IsHalted f k → (f.processors k).todo ≡ Todo.hold ∷ rest → ⊥
   hold k rest l at = by (word f (f.processors k).context.thread).held refl
     where
       run : runs (f.processors k) ≡ true
-      run = ap has_steps at
+      run = S.running f m rel room k l.inside Todo.hold rest at (λ hand. hand)
 
       few : (f.processors k).context.thread < THREADS
       few = (rel.contexts.running k l.inside run).index
@@ -121,18 +137,54 @@ module _ (f : Fine) (m : State) (rel : Rel f m) (proper : AreProper m.image m) (
   read-done : (k : ℕ) (which : Option ℕ) (rest : Todos) → IsHalted f k → (f.processors k).todo ≡ Todo.read_done which ∷ rest → ⊥
   read-done k None rest l at =
       let p = f.processors k in
-      let list : p.todo ≡ Todo.read_done None ∷ Todo.let_go ∷ [] = at ∙ ap (λ (z : Todos). Todo.read_done None ∷ z) (frames-at k (Todo.read_done None ∷ rest) l.inside at).0 in
-      let held : has_held p ≡ true = ap (λ (z : Todos). list_any is_let_go z && not (list_any is_hold z)) list in
-      let claimed : has_claimed p ≡ true = ap (is_between is_own_done is_own_claim) list in
-      ends-read k p.domain None rest l at refl (own-domain f m rel proper all sound room events k l (ap has_steps at) held)
+      let (over, behind, done) = (frames-at k (Todo.read_done None ∷ rest) l.inside at).0 in
+      let list : p.todo ≡ Todo.read_done None ∷ Todo.let_go ∷ over = at ∙ ap (λ (z : Todos). Todo.read_done None ∷ z) behind in
+      let held : has_held p ≡ true = ap (λ (z : Todos). list_any is_let_go z && not (list_any is_hold z)) list ∙ ap not (over-lacks is_hold (λ deadline mark. refl) (λ site. refl) done) in
+      let claimed : has_claimed p ≡ true = ap (is_between is_own_done is_own_claim) list ∙ ap not (over-lacks is_own_claim (λ deadline mark. refl) (λ site. refl) done) in
+      ends-read k p.domain None rest l at refl (own-domain f m rel proper all sound room events orderly k l (S.running f m rel room k l.inside (Todo.read_done None) rest at (λ hand. hand)) held)
       (λ i. (claimed i && eq-eqb p.domain p.domain refl i) || moves_to p.domain p.reply p.todo)
   read-done k (Some d) rest l at =
       let p = f.processors k in
       let move = (frames-at k (Todo.read_done (Some d) ∷ rest) l.inside at).0 in
       let offered = (subst (Fits f.image p.context) move.2 (fits-at k (Todo.read_done (Some d) ∷ rest) l.inside at)).0 in
       let moves : moves_to d p.reply p.todo ≡ true = ap (moves_to d p.reply) at ∙ eq-eqb d d refl in
-      ends-read k d (Some d) rest l at refl (offered-in f m rel proper all sound room events k (Pending.DomMove d move.0) move.1 l (ap has_steps at) offered)
+      ends-read k d (Some d) rest l at refl
+      (offered-in f m rel proper all sound room events orderly k (Pending.DomMove d move.0) move.1 l (S.running f m rel room k l.inside (Todo.read_done (Some d)) rest at (λ hand. hand)) offered)
       (ap (λ b. (has_claimed p && (p.domain == d)) || b) moves ∙ or-true (has_claimed p && (p.domain == d)))
+
+  -- A note is of a cell in which threads wait.
+
+  row-few : (a : Addr) → row_named f.image a < ROWS
+  row-few a = by (row_at f.image a.0) refl
+    where
+      by : (o : Option ℕ) → row_at f.image a.0 ≡ o → unwrap_or o 0 < ROWS
+      by None e = omega arith
+      by (Some x) e = found-below m sound a.0 x (ap (λ (i : Image). row_at i a.0) rel.image ∙ e)
+
+  some-site : {a b : ℕ} → Some a ≡ Some b → a ≡ b
+  some-site {a} h = ap (λ (o : Option ℕ). unwrap_or o a) h
+
+  patient-few : (b : Bool) (n site : ℕ) → if_patient b n ≡ Some site → n < SITES → site < SITES
+  patient-few true n site h few = subst (λ z. z < SITES) (some-site h) few
+  patient-few false n site h few = absurd (false≢true (ap is_some h))
+
+  noted-few : (steps : Steps) (site : ℕ) → noted_cell f.image steps ≡ Some site → site < SITES
+  noted-few (Pending.Work a ask ∷ rest) site h = let few = row-few a in patient-few (may_wait ask) (168 + row_named f.image a) site h (omega (arith, few))
+  noted-few (Pending.Join who timeout ∷ rest) site h = patient-few (is_patient timeout) 308 site h (omega arith)
+  noted-few (Pending.FutexWait a value timeout ∷ rest) site h = patient-few (is_patient timeout) 304 site h (omega arith)
+  noted-few steps site h = absurd (false≢true (ap is_some h))
+
+  note : (k site : ℕ) (rest : Todos) → IsHalted f k → (f.processors k).todo ≡ Todo.note site ∷ rest → ⊥
+  note k site rest l at =
+      let t = (f.processors k).context.thread in
+      let is = thread-sort t (f.sites (Site.thread t)) (rel.sorts (Site.thread t)) in
+      let few = lt-ltb site SITES (by (frames-at k (Todo.note site ∷ rest) l.inside at).0) in
+      S.not-taken f m rel room k (Todo.note site ∷ rest) _ (S.plain f m rel room) Exchange.nothing l at is tt (λ i. S.counts f m rel room (Site.thread t) _ is i && few i) refl
+    where
+      by : {todo : Todos} → IsNoted f.image site todo → site < SITES
+      by (acts {q} h) = noted-few (q ∷ []) site h
+      by (accesses {q} h) = noted-few (q ∷ []) site h
+      by (arming {rest} is h) = noted-few rest site h
 
   -- so nobody waits with any other step
   pub only : (k : ℕ) (todo : Todos) → IsHalted f k → (f.processors k).todo ≡ todo → Waits todo
@@ -155,6 +207,19 @@ module _ (f : Fine) (m : State) (rel : Rel f m) (proper : AreProper m.image m) (
   only k (Todo.wipe x ∷ todo) l at = S.wipe f m rel room k x todo l at
   only k (Todo.vacate x ∷ todo) l at = S.vacate f m rel room k x todo l at
   only k (Todo.recycle x ∷ todo) l at = S.recycle f m rel room k x todo l at
+  only k (Todo.note site ∷ todo) l at = note k site todo l at
+  only k (Todo.owe ∷ todo) l at = S.owe f m rel room k todo l at
+  only k (Todo.settle deadline mark ∷ todo) l at = S.settle f m rel room k deadline mark todo l at
+  only k (Todo.reread site ∷ todo) l at = S.reread f m rel room k site todo l at
+  only k (Todo.look who site before ∷ todo) l at = S.look f m rel room k who site before todo l at
+  only k (Todo.tell_cut who ∷ todo) l at = S.tell-cut f m rel room k who todo l at
+  only k (Todo.rouse who ∷ todo) l at = S.rouse f m rel room k who todo l at
+  only k (Todo.sleep ∷ todo) l at = S.sleep f m rel room k todo l at
+  only k (Todo.reread_asleep ∷ todo) l at = S.reread-asleep f m rel room k todo l at
+  only k (Todo.unshut who ∷ todo) l at = S.unshut f m rel room k who todo l at
+  only k (Todo.leave ∷ todo) l at = S.leave f m rel room k todo l at
+  only k (Todo.handle deadline mark ∷ todo) l at = S.handle f m rel room k deadline mark todo l at
+  only k (Todo.paid ∷ todo) l at = S.paid f m rel room k todo l at
   only k (Todo.park ∷ todo) l at = S.park f m rel room k todo l at
   only k (Todo.done ∷ todo) l at = S.done f m rel room k todo l at
 
@@ -178,16 +243,18 @@ module _ (f : Fine) (m : State) (rel : Rel f m) (proper : AreProper m.image m) (
       → (claimed_domain f.image (f.processors k) which < length f.image.domains) × ((domain f (claimed_domain f.image (f.processors k) which)).writer ≡ true)
   read-waits k None rest l at =
       let p = f.processors k in
-      let frame = (frames-at k (Todo.read_claim None ∷ rest) l.inside at).0 in
-      let list : p.todo ≡ Todo.read_claim None ∷ Todo.region_load ∷ Todo.show frame.0 frame.1 ∷ access_over = at ∙ ap (λ (z : Todos). Todo.read_claim None ∷ z) frame.2 in
-      let held : has_held p ≡ true = ap (λ (z : Todos). list_any is_let_go z && not (list_any is_hold z)) list in
-      let few = own-domain f m rel proper all sound room events k l (ap has_steps at) held in
+      let (access, behind, (q, steps, over, there, on, done)) = (frames-at k (Todo.read_claim None ∷ rest) l.inside at).0 in
+      let list : p.todo ≡ Todo.read_claim None ∷ Todo.region_load ∷ Todo.show q steps ∷ access_over over =
+      at ∙ (ap (λ (z : Todos). Todo.read_claim None ∷ z) behind ∙ ap (λ (z : Todos). Todo.read_claim None ∷ Todo.region_load ∷ z) there) in
+      let held : has_held p ≡ true = ap (λ (z : Todos). list_any is_let_go z && not (list_any is_hold z)) list ∙ ap not (over-lacks is_hold (λ deadline mark. refl) (λ site. refl) done) in
+      let few = own-domain f m rel proper all sound room events orderly k l (S.running f m rel room k l.inside (Todo.read_claim None) rest at (λ hand. hand)) held in
       (few, claims-read k p.domain None rest l at refl few)
   read-waits k (Some d) rest l at =
       let p = f.processors k in
       let move = (frames-at k (Todo.read_claim (Some d) ∷ rest) l.inside at).0 in
       let offered = (subst (Fits f.image p.context) move.2 (fits-at k (Todo.read_claim (Some d) ∷ rest) l.inside at)).0 in
-      let few = offered-in f m rel proper all sound room events k (Pending.DomMove d move.0) move.1 l (ap has_steps at) offered in
+      let few =
+      offered-in f m rel proper all sound room events orderly k (Pending.DomMove d move.0) move.1 l (S.running f m rel room k l.inside (Todo.read_claim (Some d)) rest at (λ hand. hand)) offered in
       (few, claims-read k d (Some d) rest l at refl few)
 
   pub write-waits : (k d : ℕ) (rest : Todos) → IsHalted f k → (f.processors k).todo ≡ Todo.write_claim d ∷ rest
@@ -199,7 +266,7 @@ module _ (f : Fine) (m : State) (rel : Rel f m) (proper : AreProper m.image m) (
           let p = f.processors k in
           let frame = (frames-at k (Todo.write_claim d ∷ rest) l.inside at).0 in
           let offered = (subst (Fits f.image p.context) frame.2 (fits-at k (Todo.write_claim d ∷ rest) l.inside at)).0 in
-          edit-in (length f.image.domains) d frame.0 frame.3 (offered-in f m rel proper all sound room events k frame.0 frame.1 l (ap has_steps at) offered)
+          edit-in (length f.image.domains) d frame.0 frame.3 (offered-in f m rel proper all sound room events orderly k frame.0 frame.1 l (S.running f m rel room k l.inside (Todo.write_claim d) rest at (λ hand. hand)) offered)
 
       is : f.sites (Site.domain d) ≡ SiteState.domain (domain f d)
       is = domain-is d (f.sites (Site.domain d)) (rel.sorts (Site.domain d))
@@ -212,17 +279,22 @@ module _ (f : Fine) (m : State) (rel : Rel f m) (proper : AreProper m.image m) (
           (S.not-taken f m rel room k (Todo.write_claim d ∷ rest) _ (S.plain f m rel room) Exchange.nothing l at is tt
           (λ i. S.counts f m rel room (Site.domain d) _ is i && (not (free i) && eq-eqb (domain f d).readers 0 none i)) refl)
 
+-- no processor with a list can step
+abbrev pub IsHalting : Fine → Type 0
+IsHalting f = (k : ℕ) → k < f.cpus → has_steps (f.processors k).todo ≡ true → IsHalted f k
+
 -- where none can step, each one can't
 pub halts : (f : Fine) → IsStuck f → (k : ℕ) → k < f.cpus → IsHalted f k
 halts f stuck k l = record { inside = l; stuck = λ e same may taken. stuck e (subst (λ (n : ℕ). ByOneOf f.image f.cpus (f.processors n) e) (sym same) may) taken }
 
-module _ (f : Fine) (m : State) (rel : Rel f m) (proper : AreProper m.image m) (all : InDomains f m) (sound : IsSound m) (room : HasRoom f) (events : EventsStand f) (stuck : IsStuck f) where
+module _ (f : Fine) (m : State) (rel : Rel f m) (proper : AreProper m.image m) (all : InDomains f m) (sound : IsSound m) (room : HasRoom f) (events : EventsStand f) (orderly : AreOrderly m) (halting : IsHalting f) where
   halted : (k : ℕ) (todo : Todos) → k < f.cpus → (f.processors k).todo ≡ todo → Waits todo
-  halted k todo l at = only f m rel proper all sound room events k todo (halts f stuck k l) at
+  halted k [] l at = tt
+  halted k (q ∷ todo) l at = only f m rel proper all sound room events orderly k (q ∷ todo) (halting k l (ap has_steps at)) at
 
   -- An event that is next moves a thread that is held.
   no-event : (k : ℕ) (q : Pending) (rest : Steps) (todo : Todos) → k < f.cpus → (f.processors k).todo ≡ Todo.show q rest ∷ todo → (IsHeldMove f k q → ⊥) → ⊥
-  no-event k q rest todo l at other = other (guarded f m rel proper all sound room events k q rest todo (halts f stuck k l) at)
+  no-event k q rest todo l at other = other (guarded f m rel proper all sound room events orderly k q rest todo (halting k l (ap has_steps at)) at)
 
   -- Nobody writes a domain: who does has an event next.
 
@@ -234,9 +306,9 @@ module _ (f : Fine) (m : State) (rel : Rel f m) (proper : AreProper m.image m) (
   no-edit k d [] l at w h = false≢true h
   no-edit k d (Todo.show q rest ∷ todo) l at w h = no-event k q rest todo l at (edits-held k d q h)
   no-edit k d (Todo.read_claim None ∷ todo) l at w h =
-      let list = (frames-at f m rel proper all sound room events k (Todo.read_claim None ∷ todo) l at).0 in
-      true≢false (sym h ∙ (ap (edits d) list.2 ∙ memory-edits-none d list.0 list.3))
-  no-edit k d (Todo.read_claim (Some e) ∷ todo) l at w h = false≢true (sym (ap (edits d) (frames-at f m rel proper all sound room events k (Todo.read_claim (Some e) ∷ todo) l at).0.2) ∙ h)
+      let (access, behind, (q, steps, over, there, on, done)) = (frames-at f m rel proper all sound room events orderly k (Todo.read_claim None ∷ todo) l at).0 in
+      true≢false (sym h ∙ (ap (edits d) (behind ∙ ap (λ (z : Todos). Todo.region_load ∷ z) there) ∙ memory-edits-none d q on))
+  no-edit k d (Todo.read_claim (Some e) ∷ todo) l at w h = false≢true (sym (ap (edits d) (frames-at f m rel proper all sound room events orderly k (Todo.read_claim (Some e) ∷ todo) l at).0.2) ∙ h)
   no-edit k d (Todo.write_claim e ∷ todo) l at w h = false≢true h
   no-edit k d todo l at w h = absurd w
 
@@ -263,12 +335,12 @@ module _ (f : Fine) (m : State) (rel : Rel f m) (proper : AreProper m.image m) (
   no-claim : (k : ℕ) (todo : Todos) → k < f.cpus → (f.processors k).todo ≡ todo → Waits todo → is_between is_own_done is_own_claim todo ≡ true → ⊥
   no-claim k [] l at w h = false≢true h
   no-claim k (Todo.show q rest ∷ todo) l at w h =
-      no-event k q rest todo l at (gripped-other is_own_done is_own_claim k (f.processors k).context (λ d who more. refl) q rest todo (fits-at f m rel proper all sound room events k (Todo.show q rest ∷ todo) l at).1 h)
+      no-event k q rest todo l at (gripped-other is_own_done is_own_claim k (f.processors k).context (λ d who more. refl) q rest todo (fits-at f m rel proper all sound room events orderly k (Todo.show q rest ∷ todo) l at).1 h)
   no-claim k (Todo.read_claim None ∷ todo) l at w h = false≢true (and_parts (list_any is_own_done todo) false h).1
   no-claim k (Todo.read_claim (Some e) ∷ todo) l at w h =
-      false≢true (sym (ap (is_between is_own_done is_own_claim) (frames-at f m rel proper all sound room events k (Todo.read_claim (Some e) ∷ todo) l at).0.2) ∙ h)
+      false≢true (sym (ap (is_between is_own_done is_own_claim) (frames-at f m rel proper all sound room events orderly k (Todo.read_claim (Some e) ∷ todo) l at).0.2) ∙ h)
   no-claim k (Todo.write_claim e ∷ todo) l at w h =
-      false≢true (sym (ap (is_between is_own_done is_own_claim) (frames-at f m rel proper all sound room events k (Todo.write_claim e ∷ todo) l at).0.2) ∙ h)
+      false≢true (sym (ap (is_between is_own_done is_own_claim) (frames-at f m rel proper all sound room events orderly k (Todo.write_claim e ∷ todo) l at).0.2) ∙ h)
   no-claim k todo l at w h = absurd w
 
   fails-held : (k d : ℕ) (q : Pending) → moves_step d (f.processors k).reply q ≡ true → IsHeldMove f k q → ⊥
@@ -279,11 +351,11 @@ module _ (f : Fine) (m : State) (rel : Rel f m) (proper : AreProper m.image m) (
   no-move k d [] l at w h = false≢true h
   no-move k d (Todo.show q rest ∷ todo) l at w h = no-event k q rest todo l at (fails-held k d q h)
   no-move k d (Todo.read_claim None ∷ todo) l at w h =
-      let list = (frames-at f m rel proper all sound room events k (Todo.read_claim None ∷ todo) l at).0 in
-      true≢false (sym h ∙ (ap (moves_to d (f.processors k).reply) list.2 ∙ memory-moves-none d (f.processors k).reply list.0 list.3))
+      let (access, behind, (q, steps, over, there, on, done)) = (frames-at f m rel proper all sound room events orderly k (Todo.read_claim None ∷ todo) l at).0 in
+      true≢false (sym h ∙ (ap (moves_to d (f.processors k).reply) (behind ∙ ap (λ (z : Todos). Todo.region_load ∷ z) there) ∙ memory-moves-none d (f.processors k).reply q on))
   no-move k d (Todo.read_claim (Some e) ∷ todo) l at w h = false≢true h
   no-move k d (Todo.write_claim e ∷ todo) l at w h =
-      let list = (frames-at f m rel proper all sound room events k (Todo.write_claim e ∷ todo) l at).0 in
+      let list = (frames-at f m rel proper all sound room events orderly k (Todo.write_claim e ∷ todo) l at).0 in
       true≢false (sym h ∙ (ap (moves_to d (f.processors k).reply) list.2 ∙ edits-moves-none e d (f.processors k).reply list.0 list.3))
   no-move k d todo l at w h = absurd w
 
@@ -310,12 +382,12 @@ module _ (f : Fine) (m : State) (rel : Rel f m) (proper : AreProper m.image m) (
 
   read-claim : (k : ℕ) (which : Option ℕ) (rest : Todos) → k < f.cpus → (f.processors k).todo ≡ Todo.read_claim which ∷ rest → ⊥
   read-claim k which rest l at =
-      let waits = read-waits f m rel proper all sound room events k which rest (halts f stuck k l) at in
+      let waits = read-waits f m rel proper all sound room events orderly k which rest (halting k l (ap has_steps at)) at in
       true≢false (sym waits.1 ∙ no-writer (claimed_domain f.image (f.processors k) which) waits.0)
 
   write-claim : (k d : ℕ) (rest : Todos) → k < f.cpus → (f.processors k).todo ≡ Todo.write_claim d ∷ rest → ⊥
   write-claim k d rest l at =
-      let waits = write-waits f m rel proper all sound room events k d rest (halts f stuck k l) at in
+      let waits = write-waits f m rel proper all sound room events orderly k d rest (halting k l (ap has_steps at)) at in
       ⊎_elim (λ writes. true≢false (sym writes ∙ no-writer d waits.0)) (λ some. let none = no-reader d waits.0 in omega (arith, some, none)) waits.1
 
   -- Nobody holds a thread: who does has an event next, and no move.
@@ -323,14 +395,14 @@ module _ (f : Fine) (m : State) (rel : Rel f m) (proper : AreProper m.image m) (
   no-holder : (k : ℕ) (todo : Todos) → k < f.cpus → (f.processors k).todo ≡ todo → Waits todo → is_between is_let_go is_hold todo ≡ true → ⊥
   no-holder k [] l at w h = false≢true h
   no-holder k (Todo.show q rest ∷ todo) l at w h =
-      no-event k q rest todo l at (gripped-other is_let_go is_hold k (f.processors k).context (λ d who more. refl) q rest todo (fits-at f m rel proper all sound room events k (Todo.show q rest ∷ todo) l at).1 h)
+      no-event k q rest todo l at (gripped-other is_let_go is_hold k (f.processors k).context (λ d who more. refl) q rest todo (fits-at f m rel proper all sound room events orderly k (Todo.show q rest ∷ todo) l at).1 h)
   no-holder k (Todo.read_claim which ∷ todo) l at w h = read-claim k which todo l at
   no-holder k (Todo.write_claim d ∷ todo) l at w h = write-claim k d todo l at
   no-holder k todo l at w h = absurd w
 
   no-held : (k : ℕ) (q : Pending) → IsHeldMove f k q → ⊥
   no-held k (Pending.DomMove d who) h =
-      let one = holder f m rel proper all sound room events who.0 (inside (nat_lt who.0 THREADS) refl) h.1 in
+      let one = holder f m rel proper all sound room events orderly who.0 (inside (nat_lt who.0 THREADS) refl) h.1 in
       no-holder one.0 (f.processors one.0).todo one.1 refl (halted one.0 (f.processors one.0).todo one.1 refl) one.3
     where
       inside : (b : Bool) → nat_lt who.0 THREADS ≡ b → who.0 < THREADS

@@ -1,20 +1,24 @@
 -- The region tables of processors are of the partitions that stand, as far as their versions say so, after every lawful step.
-use Rattle.um_refinement.proofs.Words.{◌≡◌, ◌⊎◌, inl, inr, ℕ, ◌<◌, ◌≤◌, Bool, true, false, cond, [], ◌∷◌, length, Option, Some, None, refl, sym, ap, ◌∙◌, subst, arith, eq-eqb, ◌==◌, ◌&&◌, ◌||◌, not, IsTrue, if◌then◌else◌, unwrap_or, list_any, and_parts, eqb-true, false≢true, Pending, Steps, State, is_user, DomWord, FineAct, Unseen, act_in, domain_in, is_visit, is_word_read, begins_cleaning, Cell, Context, after_claim, after_show, dropped_at, goes_on_by, p_next, unless_loaded, Todo, Todos, Processor, is_of, key_of, SiteState, is_sort, s_next, same_site, site_moves, word_of, FineStep, Site, same-itself, reads, Fine, domain, domain_state, one_if, parts, parts_state, Behind, OnMemory, access_over, edited, edits, is_hold, is_region_load, moves_to, Fits, behind_shown, parts_or_none, partitions_of, Table, parts_in, TableIs, has_loaded}
+use Rattle.um_refinement.proofs.Words.{◌≡◌, ◌⊎◌, inl, inr, ℕ, ◌<◌, ◌≤◌, Bool, true, false, cond, [], ◌∷◌, length, Option, Some, None, refl, sym, ap, ◌∙◌, subst, arith, eq-eqb, ◌==◌, ◌&&◌, ◌||◌, not, IsTrue, if◌then◌else◌, unwrap_or, list_any, and_parts, eqb-true, false≢true, Pending, Steps, State, is_user, DomWord, FineAct, Unseen, act_in, domain_in, is_visit, is_word_read, begins_cleaning, Cell, Context, after_claim, after_show, dropped_at, goes_on_by, p_next, unless_loaded, Todo, Todos, Processor, is_of, key_of, SiteState, is_sort, s_next, same_site, site_moves, word_of, FineStep, Site, same-itself, reads, Fine, domain, domain_state, one_if, parts, parts_state, Behind, access_over, edited, edits, is_hold, is_region_load, moves_to, Fits, behind_shown, parts_or_none, partitions_of, Table, parts_in, TableIs, has_loaded, continues, thread_in}
 use Rattle.um_machine.specs.Table as T
-use Rattle.um_refinement.proofs.DomainReads.{claimed, claimed-reads, next-domain}
+use Rattle.um_fine.specs.Answers.{is_killed}
+use Rattle.um_fine.specs.Follows.{shown_step}
+use Rattle.um_fine.specs.Places.{put_away}
+use Rattle.um_refinement.specs.Frames.{IsWaitOver, both, nothing, rereads, settled}
+use Rattle.um_refinement.proofs.DomainReads.{claimed, claimed-reads, next-domain, over-claimed}
 use Rattle.um_refinement.proofs.DomainFacts.{edited-edits}
 use Rattle.um_refinement.proofs.DomainWords.{IsEdited, Stays, stays-or-edited}
 use Rattle.um_refinement.proofs.Erased.{around}
 use Rattle.um_refinement.proofs.Leaves.{Lawful, Leaves}
-use Rattle.um_refinement.proofs.ListGrips.{cleaned-context, read-rests}
+use Rattle.um_refinement.proofs.ListGrips.{kill-rests, next-context, read-rests}
 use Rattle.um_refinement.proofs.ListGrowth.{ReadsLast, is_read_claim}
-use Rattle.um_refinement.proofs.ListTails.{exact-next, tail-read, takes-read}
+use Rattle.um_refinement.proofs.ListTails.{adds-pass, quiet-next, tail-read, takes-read}
 use Rattle.um_refinement.proofs.MemoryPart.{InDomains}
 use Rattle.um_refinement.proofs.MemorySteps.{part-total}
 use Rattle.um_refinement.proofs.RowSteps.{sort-next}
 use Rattle.um_refinement.proofs.SchedulerSteps.{made-at, made-says, word-left}
 use Rattle.um_refinement.proofs.StepReads.{is-behind}
-use Rattle.um_refinement.proofs.TableReads.{SameOwn, claimed-grip, claimed-memory, claimed-steps, is-of-key, is_claim, loads, memory-own, next-table, next-version, ready-reads, ready-table}
+use Rattle.um_refinement.proofs.TableReads.{SameOwn, claimed-grip, claimed-memory, grip-runs, over-unclaimed, is-of-key, is_claim, loads, memory-own, next-table, next-version, ready-reads, ready-table}
 
 module _ (f : Fine) (m : State) (e : FineStep) (law : Lawful f m e) (all : InDomains f m) (s : State) (leaves : Leaves f m e s) where
   open around f e use {later, processor as p, now}
@@ -25,8 +29,9 @@ module _ (f : Fine) (m : State) (e : FineStep) (law : Lawful f m e) (all : InDom
   claimed-domain : (k : ℕ) → k < f.cpus → claimed (f.processors k).todo ≡ true → (f.processors k).domain < length f.image.domains
   claimed-domain k l h =
       let here = law.rel.processors k l in
-      let of = law.rel.contexts.running k l (claimed-steps (f.processors k).todo h) in
-      let kept = here.domain.kept (claimed-grip f.image (f.processors k).todo here.frames h) in
+      let held = claimed-grip f.image (f.processors k).todo here.frames h in
+      let of = law.rel.contexts.running k l (grip-runs law.rel l held) in
+      let kept = here.domain.kept held in
       subst (λ d. d < length f.image.domains) (sym (kept ∙ (law.rel.threads (f.processors k).context.thread of.index).word.domain)) (all (f.processors k).context.thread of.index of.started)
 
   -- it counts as a reader, so nobody writes
@@ -125,7 +130,7 @@ module _ (f : Fine) (m : State) (e : FineStep) (law : Lawful f m e) (all : InDom
   key-same own d v = λ i. record { thread = own.thread i; stack = (own.stack i).0; user = is_user (own.mode i); domain = d i; version = v i }
 
   tail-claimed : (q : Todo) (todo : Todos) → p.todo ≡ q ∷ todo → is_read_claim q ≡ false → ReadsLast e q todo → claimed now.todo ≡ claimed todo
-  tail-claimed q todo at other last = tail-read f.image claimed false (claimed-reads f.image) p e q todo at other (frame q todo at) last
+  tail-claimed q todo at other last = tail-read f.image claimed false (claimed-reads f.image) p e q todo at other (adds-pass f.image claimed false (claimed-reads f.image) (λ c z. refl) q) (frame q todo at) last
 
   -- a step that has nothing to do with claims of the thread's domain
   tail-table : (q : Todo) (todo : Todos) → p.todo ≡ q ∷ todo → is_read_claim q ≡ false → is_claim q ≡ false → is_hold q ≡ false → loads (q ∷ todo) ≡ false → ReadsLast e q todo
@@ -137,7 +142,7 @@ module _ (f : Fine) (m : State) (e : FineStep) (law : Lawful f m e) (all : InDom
       next-version f.image p e q todo at claim
       ∙ (was.present c ∙ (sym (version-stays e.cpu law.by.named c) ∙ ap (λ n. (domain later n).version) (sym (next-domain f.image p e q todo at hold)))))
       (λ h.
-      let behind = sym (tail-read f.image ready-table false (ready-reads f.image) p e q todo at other (frame q todo at) last) ∙ h in
+      let behind = sym (tail-read f.image ready-table false (ready-reads f.image) p e q todo at other (adds-pass f.image ready-table false (ready-reads f.image) (λ c z. refl) q) (frame q todo at) last) ∙ h in
       let r = was.loaded (ap ready-table at ∙ (ready ∙ behind)) in (
         r.0,
         next-table f.image p e (q ∷ todo) at load ∙ r.1,
@@ -146,7 +151,7 @@ module _ (f : Fine) (m : State) (e : FineStep) (law : Lawful f m e) (all : InDom
 
   same-context : (q : Todo) (todo : Todos) → p.todo ≡ q ∷ todo → (goes_on_by f.image p e (q ∷ todo)).context ≡ p.context → SameOwn now.context p.context
   same-context q todo at keeps-it =
-      let all = cleaned-context f.image (goes_on_by f.image p e p.todo) e (begins_cleaning e) ∙ (ap (λ (z : Todos). (goes_on_by f.image p e z).context) at ∙ keeps-it) in
+      let all = next-context f.image p e ∙ (ap (λ (z : Todos). (goes_on_by f.image p e z).context) at ∙ keeps-it) in
       record { thread = ap (λ (c : Context). c.thread) all; stack = ap (λ (c : Context). c.stack) all; mode = ap (λ (c : Context). c.mode) all }
 
   show-table : (q : Pending) (rest : Steps) (todo : Todos) → p.todo ≡ Todo.show q rest ∷ todo → TableIs later s e.cpu
@@ -158,20 +163,33 @@ module _ (f : Fine) (m : State) (e : FineStep) (law : Lawful f m e) (all : InDom
       last : ReadsLast e (Todo.show q rest) todo
       last read = behind ∙ read-rests f.image p p.context q e.act (made-says f m e law (Todo.show q rest ∷ todo) at) read
 
-      after : (b : Bool) → OnMemory q → SameOwn (if b then record p { todo = Todo.done ∷ [] } else after_show f.image p e q rest todo).context p.context
-      after true on = record { thread = refl; stack = refl; mode = refl }
-      after false on = memory-own f.image p.context 0 q rest (act_in e.act) e.moved on
+      made : (b : Bool) → is_killed e.act ≡ b → claimed todo ≡ true → SameOwn (continues f.image p.context 0 (if b then Pending.Killed else q) rest (act_in e.act) e.moved) p.context
+      made true kill h =
+          absurd (false≢true (sym (ap claimed (behind ∙ kill-rests f.image p p.context q e.act (made-says f m e law (Todo.show q rest ∷ todo) at) kill)) ∙ h))
+      made false kill h = memory-own f.image p.context 0 q rest (act_in e.act) e.moved (claimed-memory f.image p.context q (sym (ap claimed behind) ∙ h))
+
+      after : (b : Bool) → claimed todo ≡ true
+          → SameOwn (if b then record p { todo = put_away (thread_in e.word).doomed } else after_show f.image p e (shown_step f.image q e.act) rest todo).context p.context
+      after true h = record { thread = refl; stack = refl; mode = refl }
+      after false h = made (is_killed e.act) refl h
 
       own : claimed todo ≡ true → SameOwn now.context p.context
       own h =
-          let on = claimed-memory f.image p.context q (sym (ap claimed behind) ∙ h) in
-          let all = cleaned-context f.image (goes_on_by f.image p e p.todo) e (begins_cleaning e) ∙ ap (λ (z : Todos). (goes_on_by f.image p e z).context) at in
-          let is = after (is_word_read e.act) on in
+          let all = next-context f.image p e ∙ ap (λ (z : Todos). (goes_on_by f.image p e z).context) at in
+          let is = after (is_word_read e.act) h in
           record {
             thread = ap (λ (c : Context). c.thread) all ∙ is.thread;
             stack = ap (λ (c : Context). c.stack) all ∙ is.stack;
             mode = ap (λ (c : Context). c.mode) all ∙ is.mode;
           }
+
+  note-table : (site : ℕ) (todo : Todos) → p.todo ≡ Todo.note site ∷ todo → TableIs later s e.cpu
+  note-table site todo at = tail-table (Todo.note site) todo at refl refl refl refl tt (λ h. own) refl refl
+    where
+      own : SameOwn now.context p.context
+      own =
+          let all = next-context f.image p e ∙ ap (λ (z : Todos). (goes_on_by f.image p e z).context) at in
+          record { thread = ap (λ (c : Context). c.thread) all; stack = ap (λ (c : Context). c.stack) all; mode = ap (λ (c : Context). c.mode) all }
 
   drop-table : (x : ℕ) (todo : Todos) → p.todo ≡ Todo.drop x ∷ todo → TableIs later s e.cpu
   drop-table x todo at = tail-table (Todo.drop x) todo at refl refl refl refl tt (λ h. own) refl refl
@@ -182,7 +200,7 @@ module _ (f : Fine) (m : State) (e : FineStep) (law : Lawful f m e) (all : InDom
 
       own : SameOwn now.context p.context
       own =
-          let all = cleaned-context f.image (goes_on_by f.image p e p.todo) e (begins_cleaning e) ∙ ap (λ (z : Todos). (goes_on_by f.image p e z).context) at in
+          let all = next-context f.image p e ∙ ap (λ (z : Todos). (goes_on_by f.image p e z).context) at in
           let is = after (is_visit e.act) in
           record {
             thread = ap (λ (c : Context). c.thread) all ∙ is.thread;
@@ -197,15 +215,18 @@ module _ (f : Fine) (m : State) (e : FineStep) (law : Lawful f m e) (all : InDom
   hold-table todo at = none-claimed (next-table f.image p e (Todo.hold ∷ todo) at refl) (tail-claimed Todo.hold todo at refl tt ∙ free (frame Todo.hold todo at))
     where
       free : Behind f.image Todo.hold todo → claimed todo ≡ false
-      free (inl h) = ap claimed h.2
-      free (inr h) = ap claimed h.3
+      free (inl h) = ap claimed (h.1 ∙ ap (λ (z : Todos). Todo.read_claim None ∷ Todo.region_load ∷ z) h.2.3)
+      free (inr h) = ap claimed (h.2 ∙ ap (λ (z : Todos). Todo.unshut h.0 ∷ z) h.3.3)
 
   done-table : (todo : Todos) → p.todo ≡ Todo.read_done None ∷ todo → TableIs later s e.cpu
   done-table todo at =
-      none-claimed (next-table f.image p e (Todo.read_done None ∷ todo) at refl) (tail-claimed (Todo.read_done None) todo at refl tt ∙ ap claimed (frame (Todo.read_done None) todo at))
+      none-claimed (next-table f.image p e (Todo.read_done None ∷ todo) at refl) (tail-claimed (Todo.read_done None) todo at refl tt ∙ none (frame (Todo.read_done None) todo at))
+    where
+      none : Behind f.image (Todo.read_done None) todo → claimed todo ≡ false
+      none h = ap claimed h.1 ∙ over-unclaimed h.0 h.2
 
   exactly : (todo : Todos) (u : Unseen) → p.todo ≡ todo → e.act ≡ FineAct.Unseen u → begins_cleaning (record e { act = FineAct.Unseen u }) ≡ false → now ≡ goes_on_by f.image p e todo
-  exactly todo u at said quiet = exact-next f.image p e todo at (ap (λ a. begins_cleaning (record e { act = a })) said ∙ quiet)
+  exactly todo u at said quiet = quiet-next f.image p e todo u at said quiet
 
   move-table : (d : ℕ) (todo : Todos) → p.todo ≡ Todo.read_claim (Some d) ∷ todo → TableIs later s e.cpu
   move-table d todo at =
@@ -252,12 +273,19 @@ module _ (f : Fine) (m : State) (e : FineStep) (law : Lawful f m e) (all : InDom
       key-now : key_of now ≡ key_of (record p { version = (domain_in e.word).version })
       key-now = ap key_of exact
 
+      unready : (over : Todos) → IsWaitOver over → ready-table (Todo.region_load ∷ Todo.show h.2.0 h.2.1 ∷ access_over over) ≡ false
+      unready _ nothing = refl
+      unready _ settled = refl
+      unready _ rereads = refl
+      unready _ both = refl
+
       loaded : ready-table now.todo ≡ true → (table : Table) × (now.table ≡ Some table) × (table.key ≡ key_of now)
       loaded ready = by (is_of (key_of (record p { version = (domain_in e.word).version })) p.table) refl
         where
-          list : ready-table (unless_loaded (is_of (key_of (record p { version = (domain_in e.word).version })) p.table) (Todo.region_load ∷ Todo.show h.0 h.1 ∷ access_over)) ≡ true
+          list : ready-table (unless_loaded (is_of (key_of (record p { version = (domain_in e.word).version })) p.table) (Todo.region_load ∷ Todo.show h.2.0 h.2.1 ∷ access_over h.2.2)) ≡ true
           list =
-              ap (λ (z : Todos). ready-table (unless_loaded (is_of (key_of (record p { version = (domain_in e.word).version })) p.table) z)) (sym h.2)
+              ap (λ (z : Todos). ready-table (unless_loaded (is_of (key_of (record p { version = (domain_in e.word).version })) p.table) z))
+              (sym (h.1 ∙ ap (λ (z : Todos). Todo.region_load ∷ z) h.2.3))
               ∙ (sym (ap (λ (z : Processor). ready-table z.todo) exact) ∙ ready)
 
           by : (b : Bool) → is_of (key_of (record p { version = (domain_in e.word).version })) p.table ≡ b → (table : Table) × (now.table ≡ Some table) × (table.key ≡ key_of now)
@@ -265,7 +293,7 @@ module _ (f : Fine) (m : State) (e : FineStep) (law : Lawful f m e) (all : InDom
               let r = is-of-key (key_of (record p { version = (domain_in e.word).version })) p.table q in
               (r.0, ap (λ (z : Processor). z.table) exact ∙ r.1, r.2 ∙ sym key-now)
           by false q =
-              absurd (false≢true (sym (ap (λ b. ready-table (unless_loaded b (Todo.region_load ∷ Todo.show h.0 h.1 ∷ access_over))) q) ∙ list))
+              absurd (false≢true (sym (ap (λ b. ready-table (unless_loaded b (Todo.region_load ∷ Todo.show h.2.0 h.2.1 ∷ access_over h.2.2))) q ∙ unready h.2.2 h.2.5) ∙ list))
 
   -- A table is loaded: it has the partitions that stand, since nobody edits the domain.
 
@@ -300,7 +328,7 @@ module _ (f : Fine) (m : State) (e : FineStep) (law : Lawful f m e) (all : InDom
       exact = exactly (Todo.region_load ∷ todo) Unseen.RegionLoad at said refl
 
       claim : claimed p.todo ≡ true
-      claim = ap claimed (at ∙ ap (λ (z : Todos). Todo.region_load ∷ z) h.2)
+      claim = ap claimed (at ∙ ap (λ (z : Todos). Todo.region_load ∷ z) h.3) ∙ ap not (over-claimed h.2 h.5)
 
       version : (domain later p.domain).version ≡ p.version
       version = version-stays e.cpu law.by.named claim ∙ sym (was.present claim)
@@ -359,6 +387,9 @@ module _ (f : Fine) (m : State) (e : FineStep) (law : Lawful f m e) (all : InDom
   by-todo (Todo.drop x ∷ todo) at = drop-table x todo at
   by-todo (Todo.park ∷ todo) at = none-claimed (next-table f.image p e (Todo.park ∷ todo) at refl) (tail-claimed Todo.park todo at refl tt ∙ ap claimed (frame Todo.park todo at))
   by-todo (Todo.done ∷ todo) at = none-claimed (next-table f.image p e (Todo.done ∷ todo) at refl) (tail-claimed Todo.done todo at refl tt ∙ ap claimed (frame Todo.done todo at))
+  by-todo (Todo.sleep ∷ todo) at = none-claimed (next-table f.image p e (Todo.sleep ∷ todo) at refl) (tail-claimed Todo.sleep todo at refl tt ∙ ap claimed (frame Todo.sleep todo at))
+  by-todo (Todo.paid ∷ todo) at = none-claimed (next-table f.image p e (Todo.paid ∷ todo) at refl) (tail-claimed Todo.paid todo at refl tt ∙ ap claimed (frame Todo.paid todo at))
+  by-todo (Todo.note site ∷ todo) at = note-table site todo at
   by-todo (q ∷ todo) at = tail-table q todo at refl refl refl refl tt (λ h. same-context q todo at refl) refl refl
 
   pub table-part : (k : ℕ) → k < f.cpus → TableIs later s k

@@ -1,9 +1,10 @@
 -- A processor's copy of a text is that step of the machine, where the relation holds: as many bytes are read as its table allows one by
 -- one, up to a zero.
-use Rattle.um_refinement.proofs.Words.{◌≡◌, ℕ, zero, suc, ◌+◌, ◌-◌, ◌<◌, ◌≤◌, Bool, true, false, List, [], ◌∷◌, length, refl, sym, ap, ◌∙◌, subst, arith, eq-eqb, ne_eqb, ◌==◌, if◌then◌else◌, false≢true, Act, Found, Image, Addr, Pending, allowed, bytes_at, string_bytes, Steps, State, act_in, bytes_in, Exchange, FineStep, Site, Bytes, read, SiteState, site_answers, Todos, Processor, allows, moves, shows, Fine, bytes, slice_index, string_from, found_in, limit_in, text_bytes, text_found, readable}
+use Rattle.um_refinement.proofs.Words.{◌≡◌, ℕ, zero, suc, ◌+◌, ◌-◌, ◌<◌, ◌≤◌, Bool, true, false, List, [], ◌∷◌, length, refl, sym, ap, ◌∙◌, subst, arith, eq-eqb, ne_eqb, ◌==◌, if◌then◌else◌, false≢true, Act, Found, Image, Addr, Pending, allowed, bytes_at, string_bytes, Steps, State, act_in, bytes_in, Exchange, FineStep, Site, Bytes, read, SiteState, site_answers, Todos, Processor, allows, shows, Fine, bytes, slice_index, string_from, found_in, limit_in, text_bytes, text_found, readable}
 use Rattle.um_base.specs.declared.names.Access.TheVariants as Access
 use Rattle.um_refinement.proofs.MemorySteps.{allows-it, memory-sort}
-use Rattle.um_refinement.proofs.Offered.{IsStep, Shows, act-is, behind-is, machine-step, says-at, site-is}
+use Rattle.um_refinement.specs.Frames.{nothing}
+use Rattle.um_refinement.proofs.Offered.{IsStep, Shows, act-is, behind-is, machine-step, moved-made, says-at, site-is}
 use Rattle.um_refinement.proofs.Says.{read-agrees}
 
 plus-one : (n : ℕ) → n + 1 ≡ suc n
@@ -98,11 +99,11 @@ copy-str-step {f} {m} {k} {e} few a h =
     let memory = memory-sort (f.sites Site.memory) (h.rel.sorts Site.memory) in
     let here = subst (λ (s : SiteState). site_answers f.image s e.moved act ≡ act) memory.1 (says-at h Site.memory act (site-is h) (act-is h)) in
     let moved : e.moved ≡ Exchange.text (readable f.image p a.0 32) (bytes_in e.moved) =
-    sym (ap (λ (s : FineStep). s.moved) h.may.makes) ∙ ap (λ (z : Todos). moves f.image p z e.moved) h.at in
+    moved-made h in
     let found : text_found f.image (bytes f) a.0 (limit_in e.moved) 0 ≡ found_in (act_in e.act) = ap (λ z. found_in (act_in z)) here in
     machine-step h 0 (act-is h) tt
     (ap (Act.CopyStr a)
     (sym found
     ∙ (ap (λ n. text_found f.image (bytes f) a.0 n 0) (ap limit_in moved)
-    ∙ text-is f.image p (bytes f) m p.context.thread (λ x. allows-it h (behind-is h) few Access.Read x 1)
+    ∙ text-is f.image p (bytes f) m p.context.thread (λ x. allows-it h tt nothing (behind-is h) few Access.Read x 1)
     (λ x. ap (λ (i : Image). read i (bytes f) x 1) (sym h.rel.image) ∙ read-agrees m (bytes f) x 1 h.rel.memory.memory h.rel.memory.stacks) 32 a.0 0 refl)))

@@ -29,5 +29,5 @@ pub paired-same : {K : Type 0} (of : Thread → K) → ((me : Thread) (due : Lis
     → of (thread_at (T.paired s who x there) u) ≡ of (thread_at s u)
 paired-same of due s who x there =
     key-same of s (T.paired s who x there)
-    (keys-wrote of (record { due = true; told = false; domain = false; doomed = false })
-    (record { due = λ h. due; told = λ h. absurd (false≢true h); domain = λ h. absurd (false≢true h); doomed = λ h. absurd (false≢true h) }) (does (Effect.pair who x there) ∷ []) s refl)
+    (keys-wrote of (record { due = true; told = false; domain = false; doomed = false; flagged = false })
+    (record { due = λ h. due; told = λ h. absurd (false≢true h); domain = λ h. absurd (false≢true h); doomed = λ h. absurd (false≢true h); flagged = λ h. absurd (false≢true h) }) (does (Effect.pair who x there) ∷ []) s refl)

@@ -1,9 +1,12 @@
 -- What a processor's visit of a row makes is that step of the machine, where the relation holds: an inherited permission, and a
 -- permission that a thread's end drops.
-use Rattle.um_refinement.proofs.Words.{◌≡◌, ℕ, ◌<◌, Bool, false, List, ◌∷◌, refl, sym, ap, ◌∙◌, subst, not, if◌then◌else◌, IsTrue, slice_index_or, and_parts, Act, Image, ROWS, own_row, Pending, Thread, Steps, to_thread, goes, State, pair_at, FineAct, Unseen, has, address_of, is_visit, FineStep, Site, SiteMay, SiteState, site_takes, Todo, Todos, CpuMay, by_me, says, site_at, Fine, row, has_steps, Fits, Passes, IsRun, Rel}
+use Rattle.um_refinement.proofs.Words.{runs, true, waits, ◌≡◌, ℕ, ◌<◌, Bool, false, List, ◌∷◌, refl, sym, ap, ◌∙◌, subst, not, if◌then◌else◌, IsTrue, slice_index_or, and_parts, Act, Image, ROWS, own_row, Pending, Thread, Steps, to_thread, goes, State, pair_at, FineAct, Unseen, has, address_of, is_visit, FineStep, Site, SiteMay, SiteState, site_takes, Todo, Todos, CpuMay, by_me, says, site_at, Fine, row, Fits, Passes, IsRun, Rel}
 use Rattle.um_machine.specs.Table as T
 use Rattle.um_refinement.proofs.StepsLeft.{passes-on}
 use Rattle.um_refinement.proofs.Erased.{Goes, GoesBy}
+use Rattle.um_fine.specs.Asks.{site_by}
+use Rattle.um_refinement.specs.Timing.{IsHand}
+use Rattle.um_refinement.proofs.Offered.{own-unless, runs-first}
 use Rattle.um_refinement.proofs.RowSteps.{row-stands}
 
 -- a permission that the word has is one of the machine's pairs
@@ -22,7 +25,7 @@ pub record Visits (f : Fine) (m : State) (k : ℕ) (e : FineStep) (x : ℕ) (ste
 
 module _ {f : Fine} {m : State} {k : ℕ} {e : FineStep} {x : ℕ} {step : Todo} {todo : Todos} (h : Visits f m k e x step todo) where
   pub visit-site : e.site ≡ site_at f.image (f.processors k) (step ∷ todo)
-  visit-site = sym (ap (λ (s : FineStep). s.site) h.may.makes) ∙ ap (site_at f.image (f.processors k)) h.at
+  visit-site = sym (ap (λ (s : FineStep). s.site) h.may.makes) ∙ ap (λ (z : Todos). site_by f.image (f.processors k) z e.act) h.at
 
   pub visit-act : e.act ≡ says f.image (f.processors k) (step ∷ todo) e.act e.moved
   visit-act = sym (ap (λ (s : FineStep). s.act) h.may.makes) ∙ ap (λ (z : Todos). says f.image (f.processors k) z e.act e.moved) h.at
@@ -37,8 +40,11 @@ module _ {f : Fine} {m : State} {k : ℕ} {e : FineStep} {x : ℕ} {step : Todo}
       subst (λ (s : SiteState). IsTrue (site_takes s act)) (row-stands f m h.rel x)
       (subst (λ (z : Site × FineAct). IsTrue (site_takes (f.sites z.0) z.1)) (λ j. (site j, said j)) h.taken.takes)
 
-  pub visit-part : IsRun m (f.processors k).context
-  visit-part = h.rel.contexts.running k h.there (ap has_steps h.at)
+  pub visit-runs : (IsHand (step ∷ todo) → ⊥) → runs (f.processors k) ≡ true
+  visit-runs apart = runs-first h.rel h.there step todo h.at apart
+
+  pub visit-part : (IsHand (step ∷ todo) → ⊥) → IsRun f m (f.processors k).context
+  visit-part apart = h.rel.contexts.running k h.there (visit-runs apart)
 
 module _ {f : Fine} {m : State} {k : ℕ} {e : FineStep} {x : ℕ} {todo : Todos} where
   -- a permission is passed on
@@ -50,7 +56,7 @@ module _ {f : Fine} {m : State} {k : ℕ} {e : FineStep} {x : ℕ} {todo : Todos
       let said = visit-shows h act (visit-act h) in
       let takes = and_parts _ _ (and_parts _ _ (visit-takes h (by_me f.image (f.processors k) act) (visit-site h) said)).1 in
       let fits : Passes f.image (f.processors k).context who todo = (subst (Fits f.image (f.processors k).context) h.at (h.rel.processors k h.there).list.fits).0 in
-      let own = ((visit-part h).of (passes-on f.image (f.processors k).context who todo fits)).own in
+      let own = own-unless ((visit-part h (λ hand. hand)).of (passes-on f.image (f.processors k).context who todo fits)) (ap waits fits.pending) in
       let child : Pending.Inherit fits.child ≡ Pending.Inherit (to_thread who) = ap (λ n. Pending.Inherit (to_thread n)) fits.same in (
         fits.step ∷ fits.rest,
         fits.pending ∙ ap (λ q. q ∷ fits.step ∷ fits.rest) child,

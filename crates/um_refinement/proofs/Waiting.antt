@@ -14,17 +14,17 @@ use Rattle.um_refinement.proofs.MemoryPart.{InDomains}
 use Rattle.um_refinement.proofs.Reachable.{IsSound, reachable-sound}
 use Rattle.um_refinement.proofs.RoomKnown.{events-stand, has-room}
 use Rattle.um_refinement.proofs.Stuck.{HasRoom}
-use Rattle.um_refinement.proofs.StuckComplete.{none-ready}
-use Rattle.um_refinement.proofs.StuckEvents.{EventsStand, IsHeldMove, guarded}
+use Rattle.um_refinement.proofs.StuckComplete.{none-due, none-next, none-ready}
+use Rattle.um_refinement.proofs.StuckEvents.{AreOrderly, EventsStand, IsHeldMove, guarded}
 use Rattle.um_refinement.proofs.StuckLists.{Waits, only, read-waits, write-waits}
-use Rattle.um_refinement.proofs.SuitsKnown.{proper-known, tells-known}
+use Rattle.um_refinement.proofs.SuitsKnown.{kept-known, proper-known, tells-known}
 use Rattle.um_refinement.proofs.Totals.{total-most}
 
 held-move : (f : Fine) (k : ℕ) (q : Pending) (rest : Steps) (todo : Todos) → (f.processors k).todo ≡ Todo.show q rest ∷ todo → IsHeldMove f k q → WaitsFor f k
 held-move f k (Pending.DomMove d who) rest todo at held = WaitsFor.held_thread d who rest todo at held.1
 held-move f k q rest todo at held = absurd held
 
-module _ (f : Fine) (m : State) (rel : Rel f m) (proper : AreProper m.image m) (all : InDomains f m) (sound : IsSound m) (room : HasRoom f) (events : EventsStand f) (threads : ReadyThreads f)
+module _ (f : Fine) (m : State) (rel : Rel f m) (proper : AreProper m.image m) (all : InDomains f m) (sound : IsSound m) (room : HasRoom f) (events : EventsStand f) (orderly : AreOrderly m) (threads : ReadyThreads f)
     (few : f.cpus ≤ 8) (k : ℕ) (halted : IsHalted f k) where
   few-run : (scheduler f).running < 255
   few-run =
@@ -33,14 +33,14 @@ module _ (f : Fine) (m : State) (rel : Rel f m) (proper : AreProper m.image m) (
       omega (arith, few, most, same)
 
   by-list : (todo : Todos) → (f.processors k).todo ≡ todo → Waits todo → WaitsFor f k
-  by-list [] at w = WaitsFor.ready_thread at (none-ready f m rel room threads k halted at few-run)
-  by-list (Todo.show q rest ∷ todo) at w = held-move f k q rest todo at (guarded f m rel proper all sound room events k q rest todo halted at)
-  by-list (Todo.read_claim which ∷ todo) at w = WaitsFor.writer which todo at (read-waits f m rel proper all sound room events k which todo halted at).1
-  by-list (Todo.write_claim d ∷ todo) at w = WaitsFor.readers d todo at (write-waits f m rel proper all sound room events k d todo halted at).1
+  by-list [] at w = WaitsFor.ready_thread at (none-ready f m rel room threads k halted at few-run) (none-due f m rel room threads k halted at) (none-next f m rel room threads k halted at)
+  by-list (Todo.show q rest ∷ todo) at w = held-move f k q rest todo at (guarded f m rel proper all sound room events orderly k q rest todo halted at)
+  by-list (Todo.read_claim which ∷ todo) at w = WaitsFor.writer which todo at (read-waits f m rel proper all sound room events orderly k which todo halted at).1
+  by-list (Todo.write_claim d ∷ todo) at w = WaitsFor.readers d todo at (write-waits f m rel proper all sound room events orderly k d todo halted at).1
   by-list todo at w = absurd w
 
   waits : WaitsFor f k
-  waits = by-list (f.processors k).todo refl (only f m rel proper all sound room events k (f.processors k).todo halted refl)
+  waits = by-list (f.processors k).todo refl (only f m rel proper all sound room events orderly k (f.processors k).todo halted refl)
 
 waits-there : (image : Image) (cpus : ℕ) → IsDescribed image → IsKnown (core_of (opening image)) → CanRun image cpus → (ps : ℕ → Processor) (ss : Site → SiteState) (m : State)
     → let f = fine image cpus ps ss in Rel f m → IsReachable image cpus m → AreBounded f → CanCount f → (k : ℕ) → IsHalted f k → WaitsFor f k
@@ -49,7 +49,7 @@ waits-there image cpus described known can ps ss m rel reach bounds counts k hal
     let proper = proper-known image cpus described known m reach in
     let sound = reachable-sound image cpus described.few m reach known in
     let room = has-room f m rel proper sound bounds (tells-known image cpus described known m reach) (children-known image cpus m reach) can counts in
-    waits f m rel proper (λ t l started. started-placed image cpus described m reach t started) sound room (events-stand f m rel proper sound bounds) bounds.ready can.few k halted
+    waits f m rel proper (λ t l started. started-placed image cpus described m reach t started) sound room (events-stand f m rel proper sound bounds) (λ t. ((kept-known image cpus described known m reach).orderly t).steps) bounds.ready can.few k halted
 
 pub waits-for : (image : Image) (cpus : ℕ) → IsDescribed image → CanRun image cpus → (h : List FineStep) → IsFineRun image cpus h
     → CanCount (left_by image cpus h) → (k : ℕ) → IsHalted (left_by image cpus h) k → WaitsFor (left_by image cpus h) k
@@ -59,7 +59,7 @@ waits-for image cpus described can = by (none-or-some (length image.objects))
         → (k : ℕ) → IsHalted (left_by image cpus h) k → WaitsFor (left_by image cpus h) k
     by (inl none) [] run counts k halted =
         let boots = ap (λ (i : Image). i.boots) (opening-image image) ∙ no-boots image image.boots described.lawful.boots none in
-        WaitsFor.ready_thread refl (ap (λ (bs : List Boot). map (boot_index (opening image)) bs) boots)
+        WaitsFor.ready_thread refl (ap (λ (bs : List Boot). map (boot_index (opening image)) bs) boots) refl refl
     by (inl none) (e ∷ h) run counts k halted = absurd (no-steps image cpus described none e h run)
     by (inr some) h run counts k halted =
         let known = (is_opening image (is_sited image described.lawful described.few some) described.lawful).known in

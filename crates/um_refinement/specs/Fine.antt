@@ -13,6 +13,8 @@ use Rattle.um_fine.specs.Memory.{Bytes}
 use Rattle.um_fine.specs.Heap.{Heap}
 use Rattle.um_fine.specs.Scheduler.{Scheduler}
 use Rattle.um_fine.specs.Cells.{Cell}
+use Rattle.um_fine.specs.Clock.{Clock}
+use Rattle.um_fine.specs.Joins.{Joins}
 use Rattle.um_fine.specs.Sites.{SiteState, word_of}
 use Rattle.um_fine.specs.Processor.{Processor}
 
@@ -35,7 +37,7 @@ domain_state s = domain_in (word_of s)
 
 abbrev pub object_state : SiteState → ObjectCell
 object_state (SiteState.cell n (Cell.object o)) = o
-object_state _ = record { contents = Contents.Nothing; waiters = []; buffer = None }
+object_state _ = record { contents = Contents.Nothing; waiters = []; noted = []; buffer = None }
 
 abbrev pub parts_state : SiteState → Option Partitions
 parts_state (SiteState.cell n (Cell.parts d)) = d
@@ -43,7 +45,7 @@ parts_state _ = None
 
 abbrev pub bytes_state : SiteState → Bytes
 bytes_state (SiteState.cell n (Cell.memory m)) = m
-bytes_state _ = record { memory = []; stacks = [] }
+bytes_state _ = record { memory = []; stacks = []; futexes = []; noted = [] }
 
 abbrev pub heap_state : SiteState → Heap
 heap_state (SiteState.cell n (Cell.heap h)) = h
@@ -51,7 +53,15 @@ heap_state _ = record { pools = []; free = []; costs = [] }
 
 abbrev pub scheduler_state : SiteState → Scheduler
 scheduler_state (SiteState.cell n (Cell.scheduler s)) = s
-scheduler_state _ = record { ready = []; parked = []; told = []; priorities = []; running = 0 }
+scheduler_state _ = record { ready = []; parked = []; told = []; priorities = []; cuts = []; running = 0; owed = 0 }
+
+abbrev pub clock_state : SiteState → Clock
+clock_state (SiteState.cell n (Cell.clock c)) = c
+clock_state _ = record { now = 0; marks = [] }
+
+abbrev pub joins_state : SiteState → Joins
+joins_state (SiteState.cell n (Cell.joins j)) = j
+joins_state _ = record { waiters = []; noted = []; shut = []; asleep = [] }
 
 -- What stands at the sites.
 
@@ -78,6 +88,12 @@ heap f = heap_state (f.sites Site.heap)
 
 abbrev pub scheduler : Fine → Scheduler
 scheduler f = scheduler_state (f.sites Site.scheduler)
+
+abbrev pub clock : Fine → Clock
+clock f = clock_state (f.sites Site.clock)
+
+abbrev pub joins : Fine → Joins
+joins f = joins_state (f.sites Site.joins)
 
 -- A number of each of n things, added up.
 

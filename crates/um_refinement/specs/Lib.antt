@@ -3,6 +3,9 @@ pub mod After
 pub mod Lists
 pub mod Offers
 pub mod Threads
+pub mod Stops
+pub mod Timing
+pub mod Choice
 pub mod Claims
 pub mod Objects
 pub mod Cleaning

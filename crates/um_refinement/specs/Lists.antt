@@ -8,7 +8,7 @@ use Rattle.um_base.specs.declared.names.Reply.{Reply}
 use Rattle.um_machine.specs.declared.pending.Amount.{Amount}
 use Rattle.um_machine.specs.declared.pending.Pending.{Pending}
 use Rattle.um_fine.specs.Context.{Context}
-use Rattle.um_fine.specs.Places.{Todo, Todos}
+use Rattle.um_fine.specs.Places.{Todo, Todos, is_paid}
 use Rattle.um_fine.specs.Processor.{Processor, fails}
 
 -- it runs a thread
@@ -16,8 +16,12 @@ abbrev pub has_steps : Todos → Bool
 has_steps [] = false
 has_steps (q ∷ todo) = true
 
+-- it has a mark in its hand, and runs no thread meanwhile
+abbrev pub times : Todos → Bool
+times todo = list_any is_paid todo
+
 abbrev pub runs : Processor → Bool
-runs p = has_steps p.todo
+runs p = has_steps p.todo && not (times p.todo)
 
 abbrev pub runs_thread : ℕ → Processor → Bool
 runs_thread t p = runs p && (p.context.thread == t)
@@ -53,18 +57,34 @@ abbrev pub is_wake : ℕ → Todo → Bool
 is_wake t (Todo.wake who told) = who == t
 is_wake t _ = false
 
+-- a deadline is armed by this step of a call
+abbrev pub is_arm : Pending → Bool
+is_arm (Pending.Arm ticks) = true
+is_arm (Pending.ArmTimer ticks) = true
+is_arm _ = false
+
+-- a thread that was cut gets ready by this step
+abbrev pub is_cut_told : ℕ → Todo → Bool
+is_cut_told t (Todo.tell_cut who) = who == t
+is_cut_told t _ = false
+
 abbrev pub is_done : Todo → Bool
 is_done Todo.done = true
 is_done _ = false
 
--- a thread that was started is added with this own part by a step on a list
+-- a suspended thread is put to sleep by this step
+abbrev pub is_sleep : Todo → Bool
+is_sleep Todo.sleep = true
+is_sleep _ = false
+
+-- a thread that was started or roused is added with this own part by a step on a list
 abbrev pub Adds : Context → Todos → Type 0
 Adds c [] = ⊥
 Adds c (Todo.show q rest ∷ todo) = ⊥
 Adds c (Todo.add d ∷ todo) = (c ≡ d) ⊎ Adds c todo
 Adds c (q ∷ todo) = Adds c todo
 
--- the own parts of all threads that were started and are added by steps on a list
+-- the own parts of all threads that were started or roused and are added by steps on a list
 abbrev pub adders : Todos → List Context
 adders [] = []
 adders (Todo.show q rest ∷ todo) = []

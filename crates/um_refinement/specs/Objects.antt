@@ -1,5 +1,5 @@
 -- Objects: permissions, status, marks, contents.
-use Rattle.std.specs.Prelude.{◌≡◌, ◌≢◌, ℕ, ◌<◌, Bool, true, false, ◌&&◌, not, nat_le, if◌then◌else◌, [], None, slice_index_or}
+use Rattle.std.specs.Prelude.{◌≡◌, ◌≢◌, ℕ, ◌<◌, Bool, true, false, ◌&&◌, not, nat_le, if◌then◌else◌, List, [], None, slice_index_or}
 use Rattle.um_base.specs.declared.limits.TheConstants.{STATIC_ROWS}
 use Rattle.um_machine.specs.declared.contents.Contents.TheVariants as Contents
 use Rattle.um_machine.specs.declared.object.Object.{Object}
@@ -49,15 +49,15 @@ pub record StatusIs (f : Fine) (m : State) (x : ℕ) : Type 0 where
   pub bare : (row f x).stage ≡ Stage.Free → ((row f x).init ≡ false) × ((row f x).public ≡ false)
   pub kind : (object_at m x).status ≢ Status.Free → (object_at m x).kind ≡ kind_of f.image x
 
--- what the cell of an object keeps, and that of a row without one
-abbrev pub cell_of : Object → ObjectCell
-cell_of o = record { contents = o.contents; waiters = o.waiters; buffer = o.buffer }
+-- what the cell of an object keeps, and that of a row without one, but for the numbers of notes
+abbrev pub cell_of : List ℕ → Object → ObjectCell
+cell_of noted o = record { contents = o.contents; waiters = o.waiters; noted = noted; buffer = o.buffer }
 
-abbrev pub empty_cell : ObjectCell
-empty_cell = record { contents = Contents.Nothing; waiters = []; buffer = None }
+abbrev pub empty_cell : List ℕ → ObjectCell
+empty_cell noted = record { contents = Contents.Nothing; waiters = []; noted = noted; buffer = None }
 
 -- The cell has the object's contents. It is empty between its clearing and the `recycle`, and where no object stands.
 pub record ContentsAre (f : Fine) (m : State) (x : ℕ) : Type 0 where
-  pub whole : wipers f x ≡ recyclers f x → object f x ≡ cell_of (object_at m x)
-  pub cleared : wipers f x < recyclers f x → object f x ≡ empty_cell
-  pub vacant : Plain.is_free (object_at m x).status ≡ true → object f x ≡ empty_cell
+  pub whole : wipers f x ≡ recyclers f x → object f x ≡ cell_of (object f x).noted (object_at m x)
+  pub cleared : wipers f x < recyclers f x → object f x ≡ empty_cell (object f x).noted
+  pub vacant : Plain.is_free (object_at m x).status ≡ true → object f x ≡ empty_cell (object f x).noted

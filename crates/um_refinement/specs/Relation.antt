@@ -16,6 +16,8 @@ use Rattle.um_refinement.specs.Dues.{DuesAre}
 use Rattle.um_refinement.specs.Looks.{LooksAre}
 use Rattle.um_refinement.specs.Frames.{AreFramed}
 use Rattle.um_refinement.specs.Offers.{ListIs}
+use Rattle.um_refinement.specs.Stops.{CutComes, CutIs, JoinsAre, LookThere, LooksFit, NoteIs, NotesAre, ShutIs, SleepIs}
+use Rattle.um_refinement.specs.Timing.{ClockIs, ExpiryComes, IsUnarmed, MarksAre, OwedIs, TimeoutComes, TimerIs}
 use Rattle.um_refinement.specs.Domains.{DomainIs, TableIs}
 use Rattle.um_refinement.specs.Resources.{HeapIs, MemoryIs}
 
@@ -26,6 +28,13 @@ pub record ThreadIs (f : Fine) (m : State) (t : ℕ) : Type 0 where
   pub told : ToldIs f m t
   pub held : HeldIs f t
   pub ready : ReadyIs f t
+  pub note : NoteIs f m t
+  pub cut : CutIs f m t
+  pub cut_comes : CutComes f m t
+  pub looks : LooksFit f t
+  pub sleep : SleepIs f t
+  pub shut : ShutIs f m t
+  pub timeout : TimeoutComes f m t
 
 -- of each row
 pub record RowIs (f : Fine) (m : State) (x : ℕ) : Type 0 where
@@ -35,11 +44,15 @@ pub record RowIs (f : Fine) (m : State) (x : ℕ) : Type 0 where
   pub claims : ClaimsAre f m x
   pub cleaners : CleanersAre f m x
   pub cleaner : CleanerIs f m x
+  pub expiry : ExpiryComes f m x
 
 -- of each processor
 pub record ProcessorIs (f : Fine) (m : State) (k : ℕ) : Type 0 where
   pub list : ListIs f.image (f.processors k)
   pub idle : IdleIs f k
+  pub timer : TimerIs f m k
+  pub unarmed : IsUnarmed f k
+  pub look : LookThere f k
   pub domain : DomainKept f k
   pub dues : DuesAre f m k
   pub table : TableIs f m k
@@ -61,3 +74,8 @@ pub record Rel (f : Fine) (m : State) : Type 0 where
   pub processors : (k : ℕ) → k < f.cpus → ProcessorIs f m k
   pub memory : MemoryIs f m
   pub heap : HeapIs f m
+  pub joins : JoinsAre f m
+  pub notes : NotesAre f
+  pub clock : ClockIs f m
+  pub owed : OwedIs f
+  pub marks : MarksAre f

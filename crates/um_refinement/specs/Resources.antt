@@ -10,6 +10,7 @@ use Rattle.um_refinement.specs.Fine.{Fine, bytes, heap}
 pub record MemoryIs (f : Fine) (m : State) : Type 0 where
   pub memory : (bytes f).memory ≡ m.memory
   pub stacks : (bytes f).stacks ≡ m.stacks
+  pub futexes : (bytes f).futexes ≡ m.futexes
 
 -- The heap has what is left in the pools, what each object cost, and the dynamic addresses at which none stands, by row.
 pub record HeapIs (f : Fine) (m : State) : Type 0 where

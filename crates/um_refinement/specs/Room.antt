@@ -5,7 +5,7 @@ use Rattle.um_base.specs.declared.limits.TheConstants.{DOMAINS}
 use Rattle.um_fine.specs.FineRun.{ByOneOf}
 use Rattle.um_fine.specs.Sites.{SiteMay, SiteState}
 use Rattle.um_fine.specs.Steps.{FineStep, Site}
-use Rattle.um_refinement.specs.Fine.{Fine, domain}
+use Rattle.um_refinement.specs.Fine.{Fine, domain, scheduler}
 
 -- No processor has a lawful step.
 abbrev pub IsStuck : Fine → Type 0
@@ -29,7 +29,8 @@ has_number (SiteState.thread w) = nat_lt w.number 268435455
 has_number (SiteState.domain w) = nat_lt w.number 268435455
 has_number (SiteState.cell n c) = nat_lt n 268435455
 
--- Each site can count one more step, and the word of each domain one more version.
+-- Each site can count one more step, the word of each domain one more version, and that of the scheduler one more mark.
 pub record CanCount (f : Fine) : Type 0 where
   pub numbers : (i : Site) → has_number (f.sites i) ≡ true
   pub versions : (d : ℕ) → d < length f.image.domains → (domain f d).version < 1048575
+  pub owed : (scheduler f).owed < 524287

@@ -8,11 +8,12 @@ use Rattle.um_machine.specs.declared.thread.Thread.{Thread}
 use Rattle.um_machine.specs.declared.pending.Pending.{Pending}
 use Rattle.um_machine.specs.State.{State, is_started, no_rows, thread_at}
 use Rattle.um_fine.specs.Context.{Context, as_thread, context_of}
-use Rattle.um_fine.specs.Scheduler.{parked_at, told_at, waits}
+use Rattle.um_fine.specs.Joins.{asleep_at}
+use Rattle.um_fine.specs.Scheduler.{is_cut, parked_at, told_at, waits}
 use Rattle.um_refinement.specs.Offers.{IsPutBack, is_over}
-use Rattle.um_refinement.specs.Fine.{Fine, one_if, over_processors, scheduler, word}
+use Rattle.um_refinement.specs.Fine.{Fine, joins, one_if, over_processors, scheduler, word}
 use Rattle.um_fine.specs.Processor.{Processor, fails}
-use Rattle.um_refinement.specs.Lists.{Adds, adders, counted, has_held, is_done, is_move_done, is_wake, of_thread, runs, runs_thread, wake_of}
+use Rattle.um_refinement.specs.Lists.{Adds, adders, counted, has_held, is_cut_told, is_done, is_move_done, is_sleep, is_wake, of_thread, runs, runs_thread, wake_of}
 
 -- The word of a thread index says what the machine's thread is.
 pub record WordIs (f : Fine) (m : State) (t : ℕ) : Type 0 where
@@ -20,6 +21,8 @@ pub record WordIs (f : Fine) (m : State) (t : ℕ) : Type 0 where
   pub doomed : (word f t).doomed ≡ (thread_at m t).doomed
   pub mode : (word f t).mode ≡ (thread_at m t).mode
   pub domain : (word f t).domain ≡ (thread_at m t).domain
+  pub aborted : (word f t).aborted ≡ (thread_at m t).aborted
+  pub suspended : (word f t).suspended ≡ (thread_at m t).suspended
 
 -- a thread without what sites keep of it
 abbrev pub own_part : Thread → Thread
@@ -34,39 +37,55 @@ abbrev pub is_ended : Life → Bool
 is_ended Life.Ended = true
 is_ended _ = false
 
--- An own part is that of the machine's thread, which was started. It holds the rows that the thread's call holds, and these rows exist.
-pub record IsOf (m : State) (c : Context) : Type 0 where
+-- how often it stands that a thread was cut and isn't taken yet: on lists of processors, and with the scheduler
+abbrev pub cutters : Fine → ℕ → ℕ
+cutters f t = over_processors f (λ p. counted (is_cut_told t) p.todo) + one_if (is_cut (scheduler f) t)
+
+-- an own part as the machine's thread has it: of one that was cut and isn't taken yet nothing is left but that it is killed
+abbrev pub as_cut : ℕ → Context → Context
+as_cut zero c = c
+as_cut (suc n) c = record c { pending = Pending.Killed ∷ [] }
+
+-- An own part is that of the machine's thread, which was started, and holds what that thread's call holds: rows that there are.
+-- Where so often it stands that it was cut, its own part still waits.
+pub record IsOf (f : Fine) (m : State) (c : Context) : Type 0 where
   pub index : c.thread < THREADS
-  pub own : as_thread c ≡ own_part (thread_at m c.thread)
+  pub own : as_thread (as_cut (cutters f c.thread) c) ≡ own_part (thread_at m c.thread)
+  pub waiting : 0 < cutters f c.thread → waits c.pending ≡ true
   pub claims : (thread_at m c.thread).checked ≡ flags_of c.claims
   pub ended : c.ended ≡ is_ended (thread_at m c.thread).life
   pub started : IsTrue (is_started (thread_at m c.thread).life)
   pub below : list_all (λ x. nat_lt x ROWS) c.claims ≡ true
 
 -- The own part of a thread that a processor runs is that of the machine's thread until its steps are over; then it holds nothing.
-pub record IsRun (m : State) (c : Context) : Type 0 where
+pub record IsRun (f : Fine) (m : State) (c : Context) : Type 0 where
   pub index : c.thread < THREADS
   pub started : IsTrue (is_started (thread_at m c.thread).life)
-  pub of : is_over c ≡ false → IsOf m c
+  pub of : is_over c ≡ false → IsOf f m c
   pub over : is_over c ≡ true → c.claims ≡ []
 
 -- a processor runs a thread whose steps aren't over
 abbrev pub runs_on : ℕ → Processor → Bool
 runs_on t p = runs_thread t p && not (is_over p.context)
 
--- in how many places an own part lies: with processors that run the thread, on the way to the ready list, and parked
+-- in how many places an own part lies: with processors that run the thread, on the way to the ready list, parked, and asleep
 abbrev pub places : Fine → ℕ → ℕ
-places f t = over_processors f (λ p. one_if (runs_on t p) + of_thread t (adders p.todo)) + one_if (is_some (parked_at (scheduler f) t))
+places f t =
+    over_processors f (λ p. one_if (runs_on t p) + of_thread t (adders p.todo)) + one_if (is_some (parked_at (scheduler f) t))
+    + one_if (is_some (asleep_at (joins f) t))
 
 -- An own part lies with the processor that runs the thread, or is parked; that of a thread that was started and isn't added yet is on a
 -- processor's list.
 pub record ContextsAre (f : Fine) (m : State) : Type 0 where
-  pub running : (k : ℕ) → k < f.cpus → runs (f.processors k) ≡ true → IsRun m (f.processors k).context
-  pub parked : (t : ℕ) (c : Context) → parked_at (scheduler f) t ≡ Some c → IsOf m c × (c.thread ≡ t) × (c.ended ≡ false) × IsPutBack c
-  pub added : (k : ℕ) (c : Context) → k < f.cpus → Adds c (f.processors k).todo → IsOf m c × (c.ended ≡ false) × (c.pending ≡ [])
+  pub running : (k : ℕ) → k < f.cpus → runs (f.processors k) ≡ true → IsRun f m (f.processors k).context
+  pub parked : (t : ℕ) (c : Context) → parked_at (scheduler f) t ≡ Some c → IsOf f m c × (c.thread ≡ t) × (c.ended ≡ false) × IsPutBack c
+  -- one that sleeps is at rest, and holds nothing
+  pub asleep : (t : ℕ) (c : Context) → asleep_at (joins f) t ≡ Some c
+      → IsOf f m c × (c.thread ≡ t) × (c.ended ≡ false) × (c.pending ≡ []) × (c.claims ≡ [])
+  pub added : (k : ℕ) (c : Context) → k < f.cpus → Adds c (f.processors k).todo → IsOf f m c × (c.ended ≡ false) × (c.pending ≡ []) × (c.noted ≡ None)
   pub once : (t : ℕ) → t < THREADS → places f t ≤ 1
-  -- a turn ends with a thread that is at rest, and has ended or is doomed
-  pub done : (k : ℕ) → k < f.cpus → list_any is_done (f.processors k).todo ≡ true
+  -- a turn ends with a thread that is at rest, and has ended or is doomed, or goes to sleep
+  pub done : (k : ℕ) → k < f.cpus → list_any is_done (f.processors k).todo ≡ true → list_any is_sleep (f.processors k).todo ≡ false
       → ((f.processors k).context.pending ≡ []) × (((f.processors k).context.ended ≡ true) ⊎ ((thread_at m (f.processors k).context.thread).doomed ≡ true))
 
 -- A thread that lies nowhere has no step left: it was never started, has ended, or is doomed at rest.
@@ -115,13 +134,13 @@ abbrev pub occurs : ℕ → List ℕ → ℕ
 occurs x [] = 0
 occurs x (y ∷ ys) = if x == y then occurs x ys + 1 else occurs x ys
 
-abbrev pub is_ready_there : Option Context → Option Told → Bool
-is_ready_there None told = false
-is_ready_there (Some c) told = not (waits c.pending) || is_some told
+abbrev pub is_ready_there : Option Context → Option Told → Bool → Bool
+is_ready_there None told cut = false
+is_ready_there (Some c) told cut = not (waits c.pending) || is_some told || cut
 
 -- Who is ready is parked, stands in the ready list once, and waits for nothing.
 pub record ReadyIs (f : Fine) (t : ℕ) : Type 0 where
-  pub ready : occurs t (scheduler f).ready ≡ one_if (is_ready_there (parked_at (scheduler f) t) (told_at (scheduler f) t))
+  pub ready : occurs t (scheduler f).ready ≡ one_if (is_ready_there (parked_at (scheduler f) t) (told_at (scheduler f) t) (is_cut (scheduler f) t))
 
 -- The scheduler counts the processors that run a thread.
 pub record RunningIs (f : Fine) : Type 0 where
@@ -131,3 +150,4 @@ pub record RunningIs (f : Fine) : Type 0 where
 pub record SchedulerIs (f : Fine) : Type 0 where
   pub parked : length (scheduler f).parked ≡ THREADS
   pub told : length (scheduler f).told ≡ THREADS
+  pub cuts : length (scheduler f).cuts ≡ THREADS

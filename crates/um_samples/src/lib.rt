@@ -28,6 +28,7 @@ macro_rules! empty_image {
             objects: um_base::BoundedVec::new($alloc),
             boots: um_base::BoundedVec::new($alloc),
             scripts: um_base::BoundedVec::new($alloc),
+            futexes: um_base::BoundedVec::new($alloc),
         }
     };
 }
@@ -219,6 +220,36 @@ object = [{name = \"a\", kind = \"thread\"}, {name = \"sa\", kind = \"thread_sta
 boot = [{thread = \"a\", stack = \"sa\", script = \"m\", priority = 0, domain = \"d\", pool = \"h\", grants = [\"r\"]},
  {thread = \"b\", stack = \"sb\", script = \"m\", priority = 0, domain = \"d\", pool = \"h\", grants = [\"r\"]}]
 script = [{name = \"m\", lines = [\"k_stack_alloc_init @r 2\"]}]
+"
+);
+
+/// A thread waits on a word of memory, which another one changes before it wakes the first.
+pub const FUTEX_WAKE: &str = described!(
+    "partition = [{name = \"p\", size = 32, attr = \"P_RW_U_RW\"}]
+domain = [{name = \"d\", partitions = [\"p\"]}]
+object = [{name = \"a\", kind = \"thread\"}, {name = \"sa\", kind = \"thread_stack\", size = 64},
+ {name = \"b\", kind = \"thread\"}, {name = \"sb\", kind = \"thread_stack\", size = 64}]
+boot = [{thread = \"a\", stack = \"sa\", script = \"m\", priority = 0, domain = \"d\"},
+ {thread = \"b\", stack = \"sb\", script = \"n\", priority = 0, domain = \"d\"}]
+script = [{name = \"m\", lines = [\"k_futex_wait @f 0 K_FOREVER\"]},
+ {name = \"n\", lines = [\"store @f 4 0x7\", \"k_futex_wake @f one\"]}]
+futex = [{name = \"f\", partition = \"p\", offset = 0}]
+"
+);
+
+/// A thread is aborted while it waits, and woken before it is looked for. It ends, is created again and waits in the same place.
+pub const LATER_LIFE: &str = described!(
+    "domain = [{name = \"d\", partitions = []}]
+object = [{name = \"a\", kind = \"thread\"}, {name = \"sa\", kind = \"thread_stack\", size = 32},
+ {name = \"b\", kind = \"thread\"}, {name = \"sb\", kind = \"thread_stack\", size = 32},
+ {name = \"c\", kind = \"thread\"}, {name = \"sc\", kind = \"thread_stack\", size = 32},
+ {name = \"s\", kind = \"sem\", count = 0, limit = 1}]
+boot = [{thread = \"b\", stack = \"sb\", script = \"w\", priority = 0, domain = \"d\", mode = \"supervisor\", grants = [\"s\"]},
+ {thread = \"a\", stack = \"sa\", script = \"m\", priority = 0, domain = \"d\", mode = \"supervisor\"},
+ {thread = \"c\", stack = \"sc\", script = \"g\", priority = 0, domain = \"d\", mode = \"supervisor\"}]
+script = [{name = \"m\", lines = [\"k_thread_abort @b\"]},
+ {name = \"g\", lines = [\"k_sem_give @s\", \"k_thread_join @b K_FOREVER\", \"k_thread_create @b @sb 32 w 0 0\"]},
+ {name = \"w\", lines = [\"k_sem_take @s K_FOREVER\"]}]
 "
 );
 

@@ -8,17 +8,17 @@ use Rattle.um_base.specs.declared.instr.Instr.{Instr}
 use Rattle.um_base.specs.declared.names.PartRef.{PartRef}
 use Rattle.um_script.specs.declared.fault.LineFault.{LineFault}
 use Rattle.um_script.specs.declared.mnemonic.Mnemonic.{Mnemonic}
-use Rattle.um_script.specs.Canonical.{Operand, part_text, with_parts, with_operand, with_operands, term_text, named_text, options_word, mnemonic, operands_of, canonical}
+use Rattle.um_script.specs.Canonical.{Operand, part_text, with_parts, with_operand, with_operands, term_text, named_text, timeout_text, options_word, mnemonic, operands_of, canonical}
 use Rattle.um_script.specs.Instructions.{spelling, syntax}
 use Rattle.um_script.specs.Lines.{mnemonic_of, whole, behind_first, line_of_words, line_of}
 use Rattle.um_script.specs.Numbers.{times, priority}
-use Rattle.um_script.specs.Operands.{Form, Times, Register, Size, AnyTerm, Named, Part, Parts, ObjectKind, Wait, Priority, OptionSet, Value, Syntax, takes, makes, operand, reading, part, parts, register, size, term, named, kind, timeout, options}
-use Rattle.um_vocabulary.specs.Words.{kind_word, timeout_word}
+use Rattle.um_script.specs.Operands.{Form, Times, Register, Size, AnyTerm, Named, Part, Parts, ObjectKind, Wait, HowMany, Priority, OptionSet, Value, Syntax, takes, makes, operand, reading, part, parts, register, size, term, named, kind, timeout, how_many, how_many_word, options}
+use Rattle.um_vocabulary.specs.Words.{kind_word}
 use Rattle.um_script.specs.Words.{Words, word, words_from, words_of_line, is_word_byte}
 use Rattle.um_script.specs.Writable.{fits, all_fit, is_line, is_part}
 use Rattle.um_script.proofs.DigitsAgain.{and_true}
 use Rattle.um_script.proofs.NameAgain.{IsWord-decimal, IsWord-more, IsWord-named, times_again, register_again, size_again, named_again}
-use Rattle.um_script.proofs.TermAgain.{term_again, IsWord-term, part_again, IsWord-part, kind_again, timeout_again, priority_again, options_again}
+use Rattle.um_script.proofs.TermAgain.{term_again, IsWord-term, part_again, IsWord-part, kind_again, timeout_again, how_many_again, priority_again, options_again}
 use Rattle.um_script.proofs.WordAgain.{IsWord, IsFree, word_again, one_again}
 
 -- ---- texts one behind the other
@@ -39,6 +39,7 @@ with_operand-front text Part value = refl
 with_operand-front text Parts value = with_parts-front text value
 with_operand-front text ObjectKind value = refl
 with_operand-front text Wait value = refl
+with_operand-front text HowMany value = refl
 with_operand-front text Priority value = refl
 with_operand-front text OptionSet value = refl
 
@@ -112,7 +113,9 @@ operand_again Parts ps rest column h free stands =
 operand_again ObjectKind k rest column h free stands =
     let again = kind_again k h in (column + 1 + length (kind_word k), one_again kind (kind_word k) rest k column again.word again.reads free)
 operand_again Wait t rest column h free stands =
-    let again = timeout_again t in (column + 1 + length (timeout_word t), one_again timeout (timeout_word t) rest t column again.word again.reads free)
+    let again = timeout_again t h in (column + 1 + length (timeout_text t), one_again timeout (timeout_text t) rest t column again.word again.reads free)
+operand_again HowMany all rest column h free stands =
+    let again = how_many_again all in (column + 1 + length (how_many_word all), one_again how_many (how_many_word all) rest all column again.word again.reads free)
 operand_again Priority p rest column h free stands =
     let again = priority_again p h in (column + 1 + length (signed_decimal p), one_again priority (signed_decimal p) rest p column again.word again.reads free)
 operand_again OptionSet set rest column h free stands =
@@ -182,6 +185,16 @@ follows (Instr.PipeWrite object addr length timeout) = step AnyTerm object _ _ _
 follows (Instr.PipeRead object addr length timeout) = step AnyTerm object _ _ _ tt (step AnyTerm addr _ _ _ tt (step AnyTerm length _ _ _ tt (step Wait timeout _ _ _ tt (done _))))
 follows (Instr.PipeReset object) = step AnyTerm object _ _ _ tt (done _)
 follows (Instr.PipeClose object) = step AnyTerm object _ _ _ tt (done _)
+follows (Instr.TimerStart object ticks) = step AnyTerm object _ _ _ tt (step AnyTerm ticks _ _ _ tt (done _))
+follows (Instr.TimerStop object) = step AnyTerm object _ _ _ tt (done _)
+follows (Instr.TimerStatus object to) = step AnyTerm object _ _ _ tt (step Register to _ _ _ tt (done _))
+follows (Instr.TimerSync object to) = step AnyTerm object _ _ _ tt (step Register to _ _ _ tt (done _))
+follows (Instr.Abort thread) = step AnyTerm thread _ _ _ tt (done _)
+follows (Instr.Join thread timeout) = step AnyTerm thread _ _ _ tt (step Wait timeout _ _ _ tt (done _))
+follows (Instr.Suspend thread) = step AnyTerm thread _ _ _ tt (done _)
+follows (Instr.Continue thread) = step AnyTerm thread _ _ _ tt (done _)
+follows (Instr.FutexWait addr value timeout) = step AnyTerm addr _ _ _ tt (step AnyTerm value _ _ _ tt (step Wait timeout _ _ _ tt (done _)))
+follows (Instr.FutexWake addr all) = step AnyTerm addr _ _ _ tt (step HowMany all _ _ _ tt (done _))
 
 -- ---- the first word
 

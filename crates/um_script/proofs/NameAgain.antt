@@ -8,12 +8,12 @@ use Rattle.std.proofs.lemmas.List.{take_at, length-append}
 use Rattle.std.proofs.lemmas.Slice.Eq.{bytes_eq-Decides}
 use Rattle.um_base.specs.Lawful.{is_name, is_name_byte, is_register, is_size, is_within, begins_with_letter}
 use Rattle.um_base.specs.declared.names.Ref.{Ref}
-use Rattle.um_script.specs.Numbers.{is_digit, times}
+use Rattle.um_script.specs.Numbers.{is_digit, times, ticks}
 use Rattle.um_script.specs.Operands.{cut, register, size, named}
 use Rattle.um_script.specs.Words.{is_word_byte}
 use Rattle.um_script.specs.Canonical.{named_text}
 use Rattle.um_script.specs.Writable.{is_named, is_word32}
-use Rattle.um_script.proofs.DigitsAgain.{and_true, list_all-weaker, decimal-spells, number_again}
+use Rattle.um_script.proofs.DigitsAgain.{and_true, list_all-weaker, decimal-spells, digits_again, number_again}
 use Rattle.um_script.proofs.WordAgain.{IsWord}
 use Rattle.um_vocabulary.specs.Words.{is_place_name}
 
@@ -82,6 +82,12 @@ times_again n h =
     let le : n ≤ 2 ^ 32 - 1 = grind (arith, nat_tests) in
     rw (number_again n le, both.0, both.1) refl
 
+pub ticks_again : (n : ℕ) → IsTrue (is_within 1 1000000 n) → ticks (decimal n) ≡ Ok n
+ticks_again n h =
+    let both = and_true (nat_le 1 n) (nat_le n 1000000) h in
+    let le : n ≤ 1000000 = grind (arith, nat_tests) in
+    rw (digits_again 7 1000000 n (omega arith) (omega arith) (omega arith) le, both.0, both.1) refl
+
 eight : (r : ℕ) → IsTrue (is_register r) → register (114 ∷ (48 + r) ∷ []) ≡ Ok r
 eight zero h = refl
 eight (suc zero) h = refl
@@ -140,6 +146,9 @@ no_plus_name b h = grind (arith, nat_tests)
 
 pub no_slash_name : (b : ℕ) → IsTrue (is_name_byte b) → IsTrue (not (b == 47))
 no_slash_name b h = grind (arith, nat_tests)
+
+pub no_bracket_digit : (b : ℕ) → IsTrue (is_digit false b) → IsTrue (not (b == 41))
+no_bracket_digit b h = grind (arith, nat_tests)
 
 pub no_slash_digit : (b : ℕ) → IsTrue (is_digit false b) → IsTrue (not (b == 47))
 no_slash_digit b h = grind (arith, nat_tests)

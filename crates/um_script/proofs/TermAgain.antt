@@ -1,12 +1,12 @@
 -- Terms, partitions and other operands that are written are read back.
-use Rattle.std.proofs.Common.{◌≡◌, ℕ, zero, suc, ◌-◌, ◌^◌, ◌<◌, ◌≤◌, Bool, true, false, not, ◌&&◌, ◌==◌, nat_le, List, [], ◌∷◌, ◌++◌, Some, None, Result, Ok, IsTrue, decimal, ℤ, pos, negsuc, refl, ap, ◌∙◌, arith, append_assoc, length, lit<}
+use Rattle.std.proofs.Common.{◌≡◌, ℕ, zero, suc, ◌-◌, ◌^◌, ◌<◌, ◌≤◌, Bool, true, false, not, ◌&&◌, ◌==◌, nat_le, List, [], ◌∷◌, ◌++◌, Some, None, Result, Ok, IsTrue, decimal, ℤ, pos, negsuc, refl, ap, ◌∙◌, arith, append_assoc, length, lit<, codes}
 use Rattle.std.specs.Prelude.{ok_or}
 use Rattle.std.specs.Fmt.{signed_decimal}
 use Rattle.std.specs.List.{list_all}
 use Rattle.std.proofs.lemmas.Bool.Decides.{nat_tests}
 use Rattle.std.proofs.lemmas.List.{append-nil, length-append}
 use Rattle.std.proofs.lemmas.List.Folds.{list_all-append}
-use Rattle.um_base.specs.Lawful.{is_name_byte, is_dynamic_kind, is_named_attr}
+use Rattle.um_base.specs.Lawful.{is_name_byte, is_dynamic_kind, is_named_attr, is_wait}
 use Rattle.um_base.specs.declared.attr.Attr.{Attr}
 use Rattle.um_base.specs.declared.instr.Options.{Options}
 use Rattle.um_base.specs.declared.names.Kind.{Kind}
@@ -15,14 +15,14 @@ use Rattle.um_base.specs.declared.names.Term.{Term}
 use Rattle.um_base.specs.declared.names.Timeout.{Timeout}
 use Rattle.um_script.specs.declared.fault.LineKind.{LineKind}
 use Rattle.um_script.specs.Numbers.{is_digit, digits, priority, is_negative}
-use Rattle.um_script.specs.Operands.{cut, place, place_cut, at_offset, term, part, part_cut, part_from_cut, given_part, rights, kind, timeout, options, more_options, begins_with}
+use Rattle.um_script.specs.Operands.{cut, place, place_cut, at_offset, term, part, part_cut, part_from_cut, given_part, rights, kind, ticks_cut, timeout_cut, timeout, how_many, how_many_word, options, more_options, begins_with}
 use Rattle.um_script.specs.Words.{is_word_byte}
-use Rattle.um_script.specs.Canonical.{term_text, offset_text, part_text, options_word, options_by}
+use Rattle.um_script.specs.Canonical.{term_text, offset_text, part_text, timeout_text, options_word, options_by}
 use Rattle.um_script.specs.Writable.{is_term, is_part, is_priority, is_word32}
 use Rattle.um_script.proofs.DigitsAgain.{and_true, list_all-weaker, decimal-spells, digits_again, number_again, is_number_again}
-use Rattle.um_script.proofs.NameAgain.{name_in_word, IsWord-decimal, IsWord-more, IsWord-name, word32-le, cut_none, cut_some, register_again, name_bytes, place_name_bytes, no_plus_name, no_slash_name, no_slash_digit}
+use Rattle.um_script.proofs.NameAgain.{name_in_word, IsWord-decimal, IsWord-more, IsWord-name, word32-le, cut_none, cut_some, ticks_again, register_again, name_bytes, place_name_bytes, no_plus_name, no_slash_name, no_bracket_digit, no_slash_digit}
 use Rattle.um_script.proofs.WordAgain.{IsWord}
-use Rattle.um_vocabulary.specs.Words.{is_place_name, attr_word, kind_word, timeout_word}
+use Rattle.um_vocabulary.specs.Words.{is_place_name, attr_word, kind_word}
 use Rattle.um_vocabulary.proofs.Again.{by_attr, attr_again}
 
 -- ---- places
@@ -159,10 +159,30 @@ kind_again Kind.Mutex h = record { word = record { bytes = refl; some = lit< tt 
 kind_again Kind.Msgq h = record { word = record { bytes = refl; some = lit< tt }; reads = refl }
 kind_again Kind.Stack h = record { word = record { bytes = refl; some = lit< tt }; reads = refl }
 kind_again Kind.Pipe h = record { word = record { bytes = refl; some = lit< tt }; reads = refl }
+kind_again Kind.Timer h = absurd cc
 
-pub timeout_again : (t : Timeout) → Again timeout (timeout_word t) t
-timeout_again Timeout.NoWait = record { word = record { bytes = refl; some = lit< tt }; reads = refl }
-timeout_again Timeout.Forever = record { word = record { bytes = refl; some = lit< tt }; reads = refl }
+no_bracket : (n : ℕ) → n < 2 ^ 64 → IsTrue (list_all (λ b. not (b == 41)) (decimal n))
+no_bracket n lt = list_all-weaker (is_digit false) (λ b. not (b == 41)) no_bracket_digit (decimal n) (decimal-spells n lt).digits_all
+
+pub timeout_again : (t : Timeout) → IsTrue (is_wait t) → Again timeout (timeout_text t) t
+timeout_again Timeout.NoWait h = record { word = record { bytes = refl; some = lit< tt }; reads = refl }
+timeout_again Timeout.Forever h = record { word = record { bytes = refl; some = lit< tt }; reads = refl }
+timeout_again (Timeout.Ticks n) h =
+    let lt : n < 2 ^ 64 = grind (arith, nat_tests) in
+    let first : List ℕ = codes "K_TICKS" in
+    let rest : List ℕ = decimal n ++ (41 ∷ []) in
+    let outer : cut 40 (first ++ (40 ∷ rest)) ≡ Some (first, rest) = cut_some 40 first rest refl in
+    let inner : cut 41 rest ≡ Some (decimal n, []) = cut_some 41 (decimal n) [] (no_bracket n lt) in
+    let read : ticks_cut (Some (decimal n, [])) ≡ Ok (Timeout.Ticks n) = rw (ticks_again n h) refl in
+    let fits : IsTrue (list_all is_word_byte rest) = list_all-append is_word_byte (decimal n) (41 ∷ []) ∙ rw ((IsWord-decimal n lt).bytes) refl in
+    record {
+      word = IsWord-more 75 (95 ∷ 84 ∷ 73 ∷ 67 ∷ 75 ∷ 83 ∷ 40 ∷ rest) refl fits;
+      reads = ap (timeout_cut (first ++ (40 ∷ rest))) outer ∙ ap ticks_cut inner ∙ read;
+    }
+
+pub how_many_again : (all : Bool) → Again how_many (how_many_word all) all
+how_many_again true = record { word = record { bytes = refl; some = lit< tt }; reads = refl }
+how_many_again false = record { word = record { bytes = refl; some = lit< tt }; reads = refl }
 
 pub priority_again : (p : ℤ) → IsTrue (is_priority p) → Again priority (signed_decimal p) p
 priority_again (pos n) h =

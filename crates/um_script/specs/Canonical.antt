@@ -6,10 +6,11 @@ use Rattle.um_base.specs.declared.instr.Options.{Options}
 use Rattle.um_base.specs.declared.names.PartRef.{PartRef}
 use Rattle.um_base.specs.declared.names.Ref.{Ref}
 use Rattle.um_base.specs.declared.names.Term.{Term}
+use Rattle.um_base.specs.declared.names.Timeout.{Timeout}
 use Rattle.um_script.specs.declared.mnemonic.Mnemonic.{Mnemonic}
 use Rattle.um_script.specs.Instructions.{spelling}
-use Rattle.um_script.specs.Operands.{Form, Times, Register, Size, AnyTerm, Named, Part, Parts, ObjectKind, Wait, Priority, OptionSet, Value}
-use Rattle.um_vocabulary.specs.Words.{kind_word, timeout_word, attr_word}
+use Rattle.um_script.specs.Operands.{Form, Times, Register, Size, AnyTerm, Named, Part, Parts, ObjectKind, Wait, HowMany, Priority, OptionSet, Value, how_many_word}
+use Rattle.um_vocabulary.specs.Words.{kind_word, attr_word}
 
 abbrev pub offset_text : ℕ → List ℕ
 offset_text offset = if offset == 0 then [] else 43 ∷ decimal offset
@@ -28,6 +29,11 @@ abbrev pub part_text : PartRef → List ℕ
 part_text (PartRef.Named name) = name
 part_text (PartRef.At index) = decimal index
 part_text (PartRef.Given range attr) = decimal range.start.0 ++ (47 ∷ decimal range.size) ++ (47 ∷ attr_word attr)
+
+abbrev pub timeout_text : Timeout → List ℕ
+timeout_text Timeout.NoWait = codes "K_NO_WAIT"
+timeout_text Timeout.Forever = codes "K_FOREVER"
+timeout_text (Timeout.Ticks n) = codes "K_TICKS(" ++ (decimal n ++ codes ")")
 
 -- each partition behind a space
 abbrev pub with_parts : List ℕ → List PartRef → List ℕ
@@ -58,7 +64,8 @@ with_operand text Named named = text ++ (32 ∷ named_text named)
 with_operand text Part part = text ++ (32 ∷ part_text part)
 with_operand text Parts parts = with_parts text parts
 with_operand text ObjectKind kind = text ++ (32 ∷ kind_word kind)
-with_operand text Wait timeout = text ++ (32 ∷ timeout_word timeout)
+with_operand text Wait timeout = text ++ (32 ∷ timeout_text timeout)
+with_operand text HowMany all = text ++ (32 ∷ how_many_word all)
 with_operand text Priority priority = text ++ (32 ∷ signed_decimal priority)
 with_operand text OptionSet set = text ++ (32 ∷ options_word set)
 
@@ -115,6 +122,16 @@ mnemonic (Instr.PipeWrite object addr length timeout) = Mnemonic.PipeWrite
 mnemonic (Instr.PipeRead object addr length timeout) = Mnemonic.PipeRead
 mnemonic (Instr.PipeReset object) = Mnemonic.PipeReset
 mnemonic (Instr.PipeClose object) = Mnemonic.PipeClose
+mnemonic (Instr.TimerStart object ticks) = Mnemonic.TimerStart
+mnemonic (Instr.TimerStop object) = Mnemonic.TimerStop
+mnemonic (Instr.TimerStatus object to) = Mnemonic.TimerStatus
+mnemonic (Instr.TimerSync object to) = Mnemonic.TimerSync
+mnemonic (Instr.Abort thread) = Mnemonic.Abort
+mnemonic (Instr.Join thread timeout) = Mnemonic.Join
+mnemonic (Instr.Suspend thread) = Mnemonic.Suspend
+mnemonic (Instr.Continue thread) = Mnemonic.Continue
+mnemonic (Instr.FutexWait addr value timeout) = Mnemonic.FutexWait
+mnemonic (Instr.FutexWake addr all) = Mnemonic.FutexWake
 
 -- its operands, from left to right
 abbrev pub operands_of : Instr → List Operand
@@ -161,6 +178,16 @@ operands_of (Instr.PipeWrite object addr length timeout) = (AnyTerm, object) ∷
 operands_of (Instr.PipeRead object addr length timeout) = (AnyTerm, object) ∷ (AnyTerm, addr) ∷ (AnyTerm, length) ∷ (Wait, timeout) ∷ []
 operands_of (Instr.PipeReset object) = (AnyTerm, object) ∷ []
 operands_of (Instr.PipeClose object) = (AnyTerm, object) ∷ []
+operands_of (Instr.TimerStart object ticks) = (AnyTerm, object) ∷ (AnyTerm, ticks) ∷ []
+operands_of (Instr.TimerStop object) = (AnyTerm, object) ∷ []
+operands_of (Instr.TimerStatus object to) = (AnyTerm, object) ∷ (Register, to) ∷ []
+operands_of (Instr.TimerSync object to) = (AnyTerm, object) ∷ (Register, to) ∷ []
+operands_of (Instr.Abort thread) = (AnyTerm, thread) ∷ []
+operands_of (Instr.Join thread timeout) = (AnyTerm, thread) ∷ (Wait, timeout) ∷ []
+operands_of (Instr.Suspend thread) = (AnyTerm, thread) ∷ []
+operands_of (Instr.Continue thread) = (AnyTerm, thread) ∷ []
+operands_of (Instr.FutexWait addr value timeout) = (AnyTerm, addr) ∷ (AnyTerm, value) ∷ (Wait, timeout) ∷ []
+operands_of (Instr.FutexWake addr all) = (AnyTerm, addr) ∷ (HowMany, all) ∷ []
 
 abbrev pub canonical : Instr → List ℕ
 canonical line = with_operands (spelling (mnemonic line)) (operands_of line)

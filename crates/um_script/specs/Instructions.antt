@@ -1,8 +1,8 @@
 -- The instructions: the word of each, the forms of its operands, and what it is with their values.
-use Rattle.std.specs.Prelude.{ℕ, List, [], ◌∷◌, codes}
+use Rattle.std.specs.Prelude.{ℕ, List, [], ◌∷◌, codes, Bool, true, false}
 use Rattle.um_base.specs.declared.instr.Instr.{Instr}
 use Rattle.um_script.specs.declared.mnemonic.Mnemonic.{Mnemonic}
-use Rattle.um_script.specs.Operands.{Times, Register, Size, AnyTerm, Named, Part, Parts, ObjectKind, Wait, Priority, OptionSet, Syntax, takes, makes}
+use Rattle.um_script.specs.Operands.{Times, Register, Size, AnyTerm, Named, Part, Parts, ObjectKind, Wait, HowMany, Priority, OptionSet, Syntax, takes, makes}
 
 -- of each: the word that its line begins with; and its operands, from left to right, and what it is with their values
 abbrev pub row : Mnemonic → List ℕ × Syntax
@@ -49,6 +49,16 @@ row Mnemonic.PipeWrite = (codes "k_pipe_write", takes AnyTerm (λ object. takes 
 row Mnemonic.PipeRead = (codes "k_pipe_read", takes AnyTerm (λ object. takes AnyTerm (λ addr. takes AnyTerm (λ length. takes Wait (λ timeout. makes (Instr.PipeRead object addr length timeout))))))
 row Mnemonic.PipeReset = (codes "k_pipe_reset", takes AnyTerm (λ object. makes (Instr.PipeReset object)))
 row Mnemonic.PipeClose = (codes "k_pipe_close", takes AnyTerm (λ object. makes (Instr.PipeClose object)))
+row Mnemonic.TimerStart = (codes "k_timer_start", takes AnyTerm (λ object. takes AnyTerm (λ ticks. makes (Instr.TimerStart object ticks))))
+row Mnemonic.TimerStop = (codes "k_timer_stop", takes AnyTerm (λ object. makes (Instr.TimerStop object)))
+row Mnemonic.TimerStatus = (codes "k_timer_status_get", takes AnyTerm (λ object. takes Register (λ to. makes (Instr.TimerStatus object to))))
+row Mnemonic.TimerSync = (codes "k_timer_status_sync", takes AnyTerm (λ object. takes Register (λ to. makes (Instr.TimerSync object to))))
+row Mnemonic.Abort = (codes "k_thread_abort", takes AnyTerm (λ thread. makes (Instr.Abort thread)))
+row Mnemonic.Join = (codes "k_thread_join", takes AnyTerm (λ thread. takes Wait (λ timeout. makes (Instr.Join thread timeout))))
+row Mnemonic.Suspend = (codes "k_thread_suspend", takes AnyTerm (λ thread. makes (Instr.Suspend thread)))
+row Mnemonic.Continue = (codes "k_thread_resume", takes AnyTerm (λ thread. makes (Instr.Continue thread)))
+row Mnemonic.FutexWait = (codes "k_futex_wait", takes AnyTerm (λ addr. takes AnyTerm (λ value. takes Wait (λ timeout. makes (Instr.FutexWait addr value timeout)))))
+row Mnemonic.FutexWake = (codes "k_futex_wake", takes AnyTerm (λ addr. takes HowMany (λ all. makes (Instr.FutexWake addr all))))
 
 abbrev pub spelling : Mnemonic → List ℕ
 spelling mnemonic = (row mnemonic).0
@@ -56,7 +66,7 @@ spelling mnemonic = (row mnemonic).0
 abbrev pub syntax : Mnemonic → Syntax
 syntax mnemonic = (row mnemonic).1
 
--- all of them, the shortest words first
+-- all, the shortest words first
 abbrev pub mnemonics : List Mnemonic
 mnemonics =
     Mnemonic.End ∷ Mnemonic.Set ∷ Mnemonic.Add
@@ -66,9 +76,10 @@ mnemonics =
     ∷ Mnemonic.Panic
     ∷ Mnemonic.SemInit ∷ Mnemonic.SemTake ∷ Mnemonic.SemGive ∷ Mnemonic.MsgqPut ∷ Mnemonic.MsgqGet
     ∷ Mnemonic.SemReset ∷ Mnemonic.MsgqPeek ∷ Mnemonic.StackPop ∷ Mnemonic.PipeInit ∷ Mnemonic.PipeRead
-    ∷ Mnemonic.MutexInit ∷ Mnemonic.MutexLock ∷ Mnemonic.MsgqPurge ∷ Mnemonic.StackPush ∷ Mnemonic.PipeWrite ∷ Mnemonic.PipeReset ∷ Mnemonic.PipeClose
-    ∷ Mnemonic.ObjectAlloc ∷ Mnemonic.MutexUnlock
-    ∷ Mnemonic.Create ∷ Mnemonic.SemCount
-    ∷ Mnemonic.Release
+    ∷ Mnemonic.MutexInit ∷ Mnemonic.MutexLock ∷ Mnemonic.MsgqPurge ∷ Mnemonic.StackPush ∷ Mnemonic.PipeWrite ∷ Mnemonic.PipeReset ∷ Mnemonic.PipeClose ∷ Mnemonic.TimerStop ∷ Mnemonic.FutexWait ∷ Mnemonic.FutexWake
+    ∷ Mnemonic.TimerStart ∷ Mnemonic.Join
+    ∷ Mnemonic.ObjectAlloc ∷ Mnemonic.MutexUnlock ∷ Mnemonic.Abort
+    ∷ Mnemonic.Create ∷ Mnemonic.SemCount ∷ Mnemonic.Continue
+    ∷ Mnemonic.Release ∷ Mnemonic.Suspend
     ∷ Mnemonic.DomainInit ∷ Mnemonic.NameSet ∷ Mnemonic.MsgqInit
-    ∷ Mnemonic.StackInit ∷ Mnemonic.MsgqUsed ∷ Mnemonic.Grant ∷ Mnemonic.Revoke ∷ Mnemonic.DomainMove ∷ Mnemonic.UserMode ∷ Mnemonic.AllGrant ∷ Mnemonic.DomainAdd ∷ Mnemonic.DomainRemove ∷ []
+    ∷ Mnemonic.StackInit ∷ Mnemonic.TimerStatus ∷ Mnemonic.MsgqUsed ∷ Mnemonic.TimerSync ∷ Mnemonic.Grant ∷ Mnemonic.Revoke ∷ Mnemonic.DomainMove ∷ Mnemonic.UserMode ∷ Mnemonic.AllGrant ∷ Mnemonic.DomainAdd ∷ Mnemonic.DomainRemove ∷ []

@@ -48,6 +48,10 @@ number word = if is_hexadecimal word then digits true 8 (2 ^ 32 - 1) (drop 2 wor
 abbrev pub times : List ℕ → Result ℕ LineKind
 times word = number word >>= in_range 1 1000
 
+-- how many ticks a call waits: 1 to 7 digits, 1 to 1,000,000
+abbrev pub ticks : List ℕ → Result ℕ LineKind
+ticks bs = digits false 7 1000000 bs >>= in_range 1 1000000
+
 abbrev pub is_negative : List ℕ → Bool
 is_negative word = bytes_eq (take 1 word) (codes "-")
 

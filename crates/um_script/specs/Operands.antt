@@ -12,9 +12,9 @@ use Rattle.um_base.specs.declared.names.Timeout.{Timeout}
 use Rattle.um_script.specs.declared.fault.LineFault.{LineFault}
 use Rattle.um_script.specs.declared.fault.LineKind.{LineKind}
 use Rattle.um_script.specs.Faults.{◌>>=◌}
-use Rattle.um_script.specs.Numbers.{digits, number, is_number, times, priority}
+use Rattle.um_script.specs.Numbers.{digits, number, is_number, times, ticks, priority}
 use Rattle.um_script.specs.Words.{Words, ends, word}
-use Rattle.um_vocabulary.specs.Words.{is_place_name, spelled, attr_named, dynamic_kind_named, timeout_named}
+use Rattle.um_vocabulary.specs.Words.{is_place_name, spelled, attr_named, dynamic_kind_named}
 
 -- the bytes before the first `mark` of a word, and those behind it
 abbrev pub cut : ℕ → List ℕ → Option (List ℕ × List ℕ)
@@ -106,9 +106,34 @@ part bytes = part_cut bytes (cut 47 bytes)
 abbrev pub kind : List ℕ → Result Kind LineKind
 kind bytes = ok_or (dynamic_kind_named bytes) LineKind.Operand
 
--- how long a call waits
+-- not at all, or for good
+abbrev pub plain_timeout : List ℕ → Result Timeout LineKind
+plain_timeout bytes =
+    if bytes_eq bytes (codes "K_NO_WAIT") then Ok Timeout.NoWait else (if bytes_eq bytes (codes "K_FOREVER") then Ok Timeout.Forever else Err LineKind.Operand)
+
+-- so many ticks: the digits before the `)` that ends the word
+abbrev pub ticks_cut : Option (List ℕ × List ℕ) → Result Timeout LineKind
+ticks_cut None = Err LineKind.Operand
+ticks_cut (Some x) = if bytes_eq x.1 [] then (ticks x.0 >>= λ n. Ok (Timeout.Ticks n)) else Err LineKind.Operand
+
+abbrev pub ticks_behind : List ℕ → List ℕ → Result Timeout LineKind
+ticks_behind first rest = if bytes_eq first (codes "K_TICKS") then ticks_cut (cut 41 rest) else Err LineKind.Operand
+
+abbrev pub timeout_cut : List ℕ → Option (List ℕ × List ℕ) → Result Timeout LineKind
+timeout_cut bytes None = plain_timeout bytes
+timeout_cut bytes (Some x) = ticks_behind x.0 x.1
+
+-- how long a call waits: `K_NO_WAIT`, `K_FOREVER` or `K_TICKS(N)`
 abbrev pub timeout : List ℕ → Result Timeout LineKind
-timeout bytes = ok_or (timeout_named bytes) LineKind.Operand
+timeout bytes = timeout_cut bytes (cut 40 bytes)
+
+-- whether all are woken, or one
+abbrev pub how_many_word : Bool → List ℕ
+how_many_word true = codes "all"
+how_many_word false = codes "one"
+
+abbrev pub how_many : List ℕ → Result Bool LineKind
+how_many bytes = ok_or (spelled how_many_word (false ∷ true ∷ []) bytes) LineKind.Operand
 
 abbrev pub no_options : Options
 no_options = record { user = false; inherit = false; essential = false }
@@ -141,6 +166,7 @@ pub data Form : Type 0 where
   Parts : Form
   ObjectKind : Form
   Wait : Form
+  HowMany : Form
   Priority : Form
   OptionSet : Form
 
@@ -155,6 +181,7 @@ Value Part = PartRef
 Value Parts = List PartRef
 Value ObjectKind = Kind
 Value Wait = Timeout
+Value HowMany = Bool
 Value Priority = ℤ
 Value OptionSet = Options
 
@@ -188,6 +215,7 @@ operand Part words = one part words
 operand Parts words = parts 4 words
 operand ObjectKind words = one kind words
 operand Wait words = one timeout words
+operand HowMany words = one how_many words
 operand Priority words = one priority words
 operand OptionSet words = one options words
 

@@ -1,13 +1,13 @@
 -- The instructions that lines can give.
 use Rattle.std.specs.Prelude.{ℕ, ◌-◌, ◌^◌, List, length, Bool, true, false, ◌&&◌, nat_lt, nat_le, ℤ, pos, negsuc}
 use Rattle.std.specs.List.{list_all}
-use Rattle.um_base.specs.Lawful.{is_within, is_name, is_register, is_size, is_dynamic_kind, is_named_attr}
+use Rattle.um_base.specs.Lawful.{is_within, is_name, is_register, is_size, is_dynamic_kind, is_named_attr, is_wait}
 use Rattle.um_base.specs.declared.instr.Instr.{Instr}
 use Rattle.um_base.specs.declared.names.PartRef.{PartRef}
 use Rattle.um_base.specs.declared.names.Ref.{Ref}
 use Rattle.um_base.specs.declared.names.Term.{Term}
-use Rattle.um_script.specs.Canonical.{Operand, operands_of}
-use Rattle.um_script.specs.Operands.{Form, Times, Register, Size, AnyTerm, Named, Part, Parts, ObjectKind, Wait, Priority, OptionSet, Value}
+use Rattle.um_script.specs.Canonical.{Operand, mnemonic, operands_of}
+use Rattle.um_script.specs.Operands.{Form, Times, Register, Size, AnyTerm, Named, Part, Parts, ObjectKind, Wait, HowMany, Priority, OptionSet, Value}
 use Rattle.um_vocabulary.specs.Words.{is_place_name}
 
 abbrev pub is_word32 : ℕ → Bool
@@ -41,7 +41,8 @@ fits Named named = is_named named
 fits Part part = is_part part
 fits Parts parts = nat_le (length parts) 4 && list_all is_part parts
 fits ObjectKind kind = is_dynamic_kind kind
-fits Wait timeout = true
+fits Wait timeout = is_wait timeout
+fits HowMany all = true
 fits Priority priority = is_priority priority
 fits OptionSet set = true
 

@@ -5,8 +5,9 @@ ghost use Rattle.um_script.specs.Operands as operands;
 
 use crate::cut::cut;
 use crate::fault::LineKind;
+use crate::numbers;
 use um_base::{Kind, Options, Timeout};
-use um_vocabulary::{dynamic_kind_named, timeout_named};
+use um_vocabulary::dynamic_kind_named;
 
 /// A kind of object that can be allocated.
 pub fn kind(word: &[u8]) -> Result<Kind, LineKind>
@@ -15,11 +16,64 @@ pub fn kind(word: &[u8]) -> Result<Kind, LineKind>
     dynamic_kind_named(word).ok_or(LineKind::Operand)
 }
 
+const NO_WAIT: &[u8] = b"K_NO_WAIT";
+
+const FOREVER: &[u8] = b"K_FOREVER";
+
+/// Not at all, or for good.
+fn plain_timeout(word: &[u8]) -> Result<Timeout, LineKind>
+    ensures { result ≡ operands.plain_timeout word.now }
+{
+    if word == NO_WAIT {
+        Ok(Timeout::NoWait)
+    } else if word == FOREVER {
+        Ok(Timeout::Forever)
+    } else {
+        Err(LineKind::Operand)
+    }
+}
+
+/// So many ticks, before the `)` that ends the word.
+fn ticks_before(rest: &[u8]) -> Result<Timeout, LineKind>
+    ensures { result ≡ operands.ticks_cut (operands.cut 41 rest.now) }
+{
+    match cut(b')', rest) {
+        Some((digits, [])) => Ok(Timeout::Ticks(numbers::ticks(digits)?)),
+        _ => Err(LineKind::Operand),
+    }
+}
+
+const TICKS: &[u8] = b"K_TICKS";
+
+fn ticks_behind(first: &[u8], rest: &[u8]) -> Result<Timeout, LineKind>
+    ensures { result ≡ operands.ticks_behind first.now rest.now }
+{
+    if first == TICKS {
+        ticks_before(rest)
+    } else {
+        Err(LineKind::Operand)
+    }
+}
+
 /// How long a call waits.
 pub fn timeout(word: &[u8]) -> Result<Timeout, LineKind>
     ensures { result ≡ operands.timeout word.now }
 {
-    timeout_named(word).ok_or(LineKind::Operand)
+    match cut(b'(', word) {
+        None => plain_timeout(word),
+        Some((first, rest)) => ticks_behind(first, rest),
+    }
+}
+
+/// Whether all are woken, or one.
+pub fn how_many(word: &[u8]) -> Result<bool, LineKind>
+    ensures { result ≡ operands.how_many word.now }
+{
+    match word {
+        b"one" => Ok(false),
+        b"all" => Ok(true),
+        _ => Err(LineKind::Operand),
+    }
 }
 
 /// How many bytes are loaded or stored.

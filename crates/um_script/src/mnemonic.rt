@@ -1,6 +1,6 @@
 //! The words that lines begin with, each by the name of its instruction. The calls have Zephyr's names.
 
-ghost use Rattle.std.specs.Prelude.{◌≡◌, ◌==◌, length, find, filter, bytes_eq};
+ghost use Rattle.std.specs.Prelude.{◌≡◌, ◌==◌, IfSome, IsTrue, length, find, filter, bytes_eq};
 ghost use Rattle.um_script.specs.Instructions.{spelling, mnemonics};
 
 /// What a line does.
@@ -49,10 +49,20 @@ pub enum Mnemonic {
     PipeRead,
     PipeReset,
     PipeClose,
+    TimerStart,
+    TimerStop,
+    TimerStatus,
+    TimerSync,
+    Abort,
+    Join,
+    Suspend,
+    Continue,
+    FutexWait,
+    FutexWake,
 }
 
-/// All of them, the shortest words first.
-const ALL: [Mnemonic; 43] = [
+/// All, the shortest words first.
+const ALL: [Mnemonic; 53] = [
     Mnemonic::End,
     Mnemonic::Set,
     Mnemonic::Add,
@@ -79,16 +89,26 @@ const ALL: [Mnemonic; 43] = [
     Mnemonic::PipeWrite,
     Mnemonic::PipeReset,
     Mnemonic::PipeClose,
+    Mnemonic::TimerStop,
+    Mnemonic::FutexWait,
+    Mnemonic::FutexWake,
+    Mnemonic::TimerStart,
+    Mnemonic::Join,
     Mnemonic::ObjectAlloc,
     Mnemonic::MutexUnlock,
+    Mnemonic::Abort,
     Mnemonic::Create,
     Mnemonic::SemCount,
+    Mnemonic::Continue,
     Mnemonic::Release,
+    Mnemonic::Suspend,
     Mnemonic::DomainInit,
     Mnemonic::NameSet,
     Mnemonic::MsgqInit,
     Mnemonic::StackInit,
+    Mnemonic::TimerStatus,
     Mnemonic::MsgqUsed,
+    Mnemonic::TimerSync,
     Mnemonic::Grant,
     Mnemonic::Revoke,
     Mnemonic::DomainMove,
@@ -111,11 +131,12 @@ fn of_length(size: usize) -> &'static [Mnemonic]
         7 => &all[8..9],
         10 => &all[9..14],
         11 => &all[14..19],
-        12 => &all[19..26],
-        14 => &all[26..28],
-        15 => &all[28..30],
-        16 => &all[30..31],
-        17 => &all[31..34],
+        12 => &all[19..29],
+        13 => &all[29..31],
+        14 => &all[31..34],
+        15 => &all[34..37],
+        16 => &all[37..39],
+        17 => &all[39..42],
         _ => all,
     }
 }
@@ -178,6 +199,16 @@ impl Mnemonic {
             Mnemonic::PipeRead => b"k_pipe_read",
             Mnemonic::PipeReset => b"k_pipe_reset",
             Mnemonic::PipeClose => b"k_pipe_close",
+            Mnemonic::TimerStart => b"k_timer_start",
+            Mnemonic::TimerStop => b"k_timer_stop",
+            Mnemonic::TimerStatus => b"k_timer_status_get",
+            Mnemonic::TimerSync => b"k_timer_status_sync",
+            Mnemonic::Abort => b"k_thread_abort",
+            Mnemonic::Join => b"k_thread_join",
+            Mnemonic::Suspend => b"k_thread_suspend",
+            Mnemonic::Continue => b"k_thread_resume",
+            Mnemonic::FutexWait => b"k_futex_wait",
+            Mnemonic::FutexWake => b"k_futex_wake",
         }
     }
 

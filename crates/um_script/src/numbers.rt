@@ -101,6 +101,17 @@ pub fn times(word: &[u8]) -> Result<u16, LineKind>
     }
 }
 
+/// How many ticks a call waits: 1 to 7 digits, 1 to 1,000,000.
+pub fn ticks(bytes: &[u8]) -> Result<u32, LineKind>
+    ensures { result ≡ numbers.ticks bytes.now }
+{
+    let ticks = digits(false, 7, 1_000_000, bytes)?;
+    if ticks == 0 {
+        return Err(LineKind::Range);
+    }
+    Ok(ticks)
+}
+
 /// A priority: -128 to 127.
 pub fn priority(word: &[u8]) -> Result<i8, LineKind>
     ensures { result ≡ numbers.priority word.now }

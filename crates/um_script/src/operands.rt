@@ -112,6 +112,15 @@ impl Words<'_> {
         word.placed(choices::timeout(word.bytes))
     }
 
+    /// Whether all are woken, or one.
+    #[tactic(auto, unfolding(crate::specs::Operands::one))]
+    pub fn how_many(&mut self) -> Result<bool, LineFault>
+        ensures { Gives result (operands.one operands.how_many (words_left self.old)) (words_left self.new) }
+    {
+        let word = self.word()?;
+        word.placed(choices::how_many(word.bytes))
+    }
+
     /// A priority.
     #[tactic(auto, unfolding(crate::specs::Operands::one))]
     pub fn priority(&mut self) -> Result<i8, LineFault>

@@ -5,7 +5,7 @@ ghost use Rattle.um_script.specs.{
   Cursor.{words_left},
   Faults.{Gives},
   Lines.{instruction, alone, whole, line_of},
-  Subjects.{is_call, is_service, is_data_passing},
+  Subjects.{is_call, is_later_call, is_service, is_data_passing},
   Writable.{is_line},
 };
 
@@ -61,11 +61,28 @@ impl Words<'_> {
             }),
             Mnemonic::UserMode => read!(self => UserMode { script: named }),
             Mnemonic::NameSet => read!(self => NameSet { thread: term, addr: term }),
+            call => self.stop_call(call),
+        }
+    }
+
+    /// The operands of a call that stops another thread or waits for its end, of a call on a futex, or of a call of a service.
+    fn stop_call(&mut self, mnemonic: Mnemonic) -> Result<Instr, LineFault>
+        requires { IsTrue (is_later_call mnemonic) }
+        ensures { Gives result (instruction mnemonic (words_left self.old)) (words_left self.new) }
+    {
+        match mnemonic {
+            Mnemonic::Abort => read!(self => Abort { thread: term }),
+            Mnemonic::Join => read!(self => Join { thread: term, timeout: timeout }),
+            Mnemonic::Suspend => read!(self => Suspend { thread: term }),
+            Mnemonic::Continue => read!(self => Continue { thread: term }),
+            Mnemonic::FutexWait =>
+                read!(self => FutexWait { addr: term, value: term, timeout: timeout }),
+            Mnemonic::FutexWake => read!(self => FutexWake { addr: term, all: how_many }),
             call => self.service_call(call),
         }
     }
 
-    /// The operands of a call of a service.
+    /// The operands of a call of a service or of a timer.
     fn service_call(&mut self, mnemonic: Mnemonic) -> Result<Instr, LineFault>
         requires { IsTrue (is_service mnemonic) }
         ensures { Gives result (instruction mnemonic (words_left self.old)) (words_left self.new) }
@@ -79,6 +96,10 @@ impl Words<'_> {
             Mnemonic::MutexInit => read!(self => MutexInit { object: term }),
             Mnemonic::MutexLock => read!(self => MutexLock { object: term, timeout: timeout }),
             Mnemonic::MutexUnlock => read!(self => MutexUnlock { object: term }),
+            Mnemonic::TimerStart => read!(self => TimerStart { object: term, ticks: term }),
+            Mnemonic::TimerStop => read!(self => TimerStop { object: term }),
+            Mnemonic::TimerStatus => read!(self => TimerStatus { object: term, to: register }),
+            Mnemonic::TimerSync => read!(self => TimerSync { object: term, to: register }),
             call => self.data_passing_call(call),
         }
     }

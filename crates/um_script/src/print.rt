@@ -6,8 +6,8 @@ ghost use Rattle.um_script.specs.{Lines.{line_of}, Writable.{is_line}};
 
 use crate::mnemonic::Mnemonic;
 use crate::writing::{
-    put, put_named, put_number, put_options, put_part, put_parts, put_priority, put_register,
-    put_term, put_timeout,
+    put, put_how_many, put_named, put_number, put_options, put_part, put_parts, put_priority,
+    put_register, put_term, put_timeout,
 };
 use std::alloc::Global;
 use um_base::{Instr, OutOfMemory, Term};
@@ -61,6 +61,16 @@ fn mnemonic(line: &Instr) -> Mnemonic
         Instr::PipeRead { .. } => Mnemonic::PipeRead,
         Instr::PipeReset { .. } => Mnemonic::PipeReset,
         Instr::PipeClose { .. } => Mnemonic::PipeClose,
+        Instr::TimerStart { .. } => Mnemonic::TimerStart,
+        Instr::TimerStop { .. } => Mnemonic::TimerStop,
+        Instr::TimerStatus { .. } => Mnemonic::TimerStatus,
+        Instr::TimerSync { .. } => Mnemonic::TimerSync,
+        Instr::Abort { .. } => Mnemonic::Abort,
+        Instr::Join { .. } => Mnemonic::Join,
+        Instr::Suspend { .. } => Mnemonic::Suspend,
+        Instr::Continue { .. } => Mnemonic::Continue,
+        Instr::FutexWait { .. } => Mnemonic::FutexWait,
+        Instr::FutexWake { .. } => Mnemonic::FutexWake,
     }
 }
 
@@ -143,7 +153,11 @@ fn put_operands(text: &mut Vec<u8>, line: &Instr) -> Result<(), OutOfMemory>
         | Instr::MutexUnlock { object }
         | Instr::MsgqPurge { object }
         | Instr::PipeReset { object }
-        | Instr::PipeClose { object } => put_term(text, object),
+        | Instr::PipeClose { object }
+        | Instr::TimerStop { object }
+        | Instr::Abort { thread: object }
+        | Instr::Suspend { thread: object }
+        | Instr::Continue { thread: object } => put_term(text, object),
         Instr::Grant { object, thread }
         | Instr::Revoke { object, thread }
         | Instr::NameSet {
@@ -165,6 +179,10 @@ fn put_operands(text: &mut Vec<u8>, line: &Instr) -> Result<(), OutOfMemory>
         | Instr::PipeInit {
             object,
             size: thread,
+        }
+        | Instr::TimerStart {
+            object,
+            ticks: thread,
         } => put_two(text, object, thread),
         Instr::SemInit {
             object,
@@ -176,11 +194,19 @@ fn put_operands(text: &mut Vec<u8>, line: &Instr) -> Result<(), OutOfMemory>
             msg_size: count,
             max_msgs: limit,
         } => put_three(text, object, count, limit),
-        Instr::SemTake { object, timeout } | Instr::MutexLock { object, timeout } => {
+        Instr::SemTake { object, timeout }
+        | Instr::MutexLock { object, timeout }
+        | Instr::Join {
+            thread: object,
+            timeout,
+        } => {
             put_term(text, object)?;
             put_timeout(text, *timeout)
         }
-        Instr::SemCount { object, to } | Instr::MsgqUsed { object, to } => {
+        Instr::SemCount { object, to }
+        | Instr::MsgqUsed { object, to }
+        | Instr::TimerStatus { object, to }
+        | Instr::TimerSync { object, to } => {
             put_term(text, object)?;
             put_register(text, *to)
         }
@@ -197,6 +223,11 @@ fn put_operands(text: &mut Vec<u8>, line: &Instr) -> Result<(), OutOfMemory>
         | Instr::StackPop {
             object,
             addr,
+            timeout,
+        }
+        | Instr::FutexWait {
+            addr: object,
+            value: addr,
             timeout,
         } => {
             put_two(text, object, addr)?;
@@ -216,6 +247,10 @@ fn put_operands(text: &mut Vec<u8>, line: &Instr) -> Result<(), OutOfMemory>
         } => {
             put_three(text, object, addr, length)?;
             put_timeout(text, *timeout)
+        }
+        Instr::FutexWake { addr, all } => {
+            put_term(text, addr)?;
+            put_how_many(text, *all)
         }
     }
 }

@@ -1,12 +1,14 @@
 //! Operands as text, each behind a space.
 
 ghost use Rattle.std.specs.{Prelude.{◌≡◌, ◌∷◌, ◌++◌, decimal, OnOk}, Fmt.{signed_decimal}};
+ghost use Rattle.um_base.specs.declared.names.Timeout.{Timeout};
 ghost use Rattle.um_script.specs.Canonical as canonical;
+ghost use Rattle.um_script.specs.Operands as operands;
 ghost use Rattle.um_vocabulary.specs.Words as words;
 
 use itoa::Buffer;
 use um_base::{Attr, Options, OutOfMemory, PartRef, Range, Ref, Term, Timeout};
-use um_vocabulary::{attr_word, timeout_word};
+use um_vocabulary::attr_word;
 
 /// A word.
 pub fn put(text: &mut Vec<u8>, word: &[u8]) -> Result<(), OutOfMemory>
@@ -124,11 +126,31 @@ pub fn put_parts(text: &mut Vec<u8>, parts: &[PartRef]) -> Result<(), OutOfMemor
     Ok(())
 }
 
+fn put_ticks(text: &mut Vec<u8>, ticks: u32) -> Result<(), OutOfMemory>
+    ensures { OnOk result (text.new.items ≡ text.old.items ++ (32 ∷ canonical.timeout_text (Timeout.Ticks ticks))) }
+{
+    put(text, b"K_TICKS(")?;
+    put_digits(text, ticks)?;
+    text.push(b')')?;
+    Ok(())
+}
+
 /// How long a call waits.
 pub fn put_timeout(text: &mut Vec<u8>, timeout: Timeout) -> Result<(), OutOfMemory>
-    ensures { OnOk result (text.new.items ≡ text.old.items ++ (32 ∷ words.timeout_word timeout)) }
+    ensures { OnOk result (text.new.items ≡ text.old.items ++ (32 ∷ canonical.timeout_text timeout)) }
 {
-    put(text, timeout_word(timeout))
+    match timeout {
+        Timeout::NoWait => put(text, b"K_NO_WAIT"),
+        Timeout::Forever => put(text, b"K_FOREVER"),
+        Timeout::Ticks(ticks) => put_ticks(text, ticks),
+    }
+}
+
+/// Whether all are woken, or one.
+pub fn put_how_many(text: &mut Vec<u8>, all: bool) -> Result<(), OutOfMemory>
+    ensures { OnOk result (text.new.items ≡ text.old.items ++ (32 ∷ operands.how_many_word all)) }
+{
+    put(text, if all { b"all" } else { b"one" })
 }
 
 /// Options in one text, in their order.

@@ -1,3 +1,4 @@
+pub mod Awaits
 pub mod Left
 pub mod Preview
 pub mod Sides

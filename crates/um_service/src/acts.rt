@@ -13,7 +13,7 @@ ghost use Rattle.um_service.specs.{Left.{left}, Preview.{said}};
 use crate::outcome::Outcome;
 use crate::preview::{Said, at_once};
 use crate::waking::answers;
-use crate::{message_queue, mutex, pipe, semaphore, stack};
+use crate::{message_queue, mutex, pipe, semaphore, stack, timer};
 use um_base::{Ask, Errno, Reply, THREADS, Waiter};
 use um_machine::{BytePipe, Contents, MessageQueue, ValueStack, Waiters};
 
@@ -42,6 +42,14 @@ fn uses(contents: &mut Contents, waiters: &mut Waiters, who: &Waiter, outcome: &
         Contents::Msgq(queue) => message_queue::act(queue, waiters, who, outcome),
         Contents::Stack(stack) => stack::act(stack, waiters, who, outcome),
         Contents::Pipe(pipe) => pipe::act(pipe, waiters, who, outcome),
+        Contents::Stopped { status } => {
+            let status = *status;
+            timer::act_stopped(contents, status, who, outcome);
+        }
+        Contents::Running { deadline } => {
+            let deadline = *deadline;
+            timer::act_running(contents, deadline, waiters, who, outcome);
+        }
         Contents::Nothing | Contents::Named(_) => answers(Reply::Void, outcome),
     }
 }
@@ -180,6 +188,8 @@ fn says_uses(contents: &Contents, waiters: &Waiters, who: &Waiter) -> Said
         Contents::Msgq(queue) => message_queue::says(queue, waiters, who),
         Contents::Stack(stack) => stack::says(stack, waiters, who),
         Contents::Pipe(pipe) => pipe::says(pipe, waiters, who),
+        Contents::Stopped { status } => timer::says_stopped(*status, who),
+        Contents::Running { .. } => timer::says_running(waiters, who),
         Contents::Nothing | Contents::Named(_) => at_once(Reply::Void),
     }
 }

@@ -32,16 +32,23 @@ pub fn at_once(reply: Reply) -> Said
     }
 }
 
+/// The caller waits.
+pub fn waits() -> Said
+    ensures { result ≡ record { answer = Answer.Wait; woken = [] } }
+{
+    Said {
+        answer: Answer::Wait,
+        woken: Replies::new(),
+    }
+}
+
 /// The caller waits, or gets an error if it doesn't wait.
 pub fn blocked(timeout: Timeout, error: Errno) -> Said
     ensures { (contents : Contents) (waiters : List Waiter) (who : Waiter) → said (blocks contents waiters who timeout error) ≡ result }
 {
     match timeout {
         Timeout::NoWait => at_once(Reply::Fail(error)),
-        Timeout::Forever => Said {
-            answer: Answer::Wait,
-            woken: Replies::new(),
-        },
+        Timeout::Forever | Timeout::Ticks(_) => waits(),
     }
 }
 

@@ -71,6 +71,7 @@ impl Trial {
             priority: who.1,
             ask: *ask,
             bytes: *bytes,
+            until: None,
         };
         let said = says(&self.contents, &self.waiters, &waiter);
         let mut outcome = Outcome::new();
@@ -141,6 +142,42 @@ fn a_give_wakes_the_first_in_order(rt: HostRuntime) {
     answers(&rt, &sem.act((4, 0), &give), VOID);
     let count = Ask::SemCount;
     answers(&rt, &sem.act((4, 0), &count), Answer::Now(Reply::Num(1)));
+}
+
+/// A timer runs out: what was said beforehand is what its waiters are told.
+fn runs_out(rt: &impl Abort, timer: &mut Trial, woken: &[(u8, Reply)]) {
+    let said = says_run_out(&timer.waiters);
+    let mut told = Woken::new();
+    run_out(&mut timer.contents, &mut timer.waiters, &mut told);
+    assert!(rt; said == told.replies());
+    assert!(rt; said.len() == woken.len());
+    for (i, pair) in woken.iter().enumerate() {
+        assert!(rt; i < said.len() && said.at(i) == (ThreadIx(pair.0), pair.1));
+    }
+}
+
+/// A timer that was started again and ran out says so once. One that runs lets a thread wait, which is told that it ran out or was stopped.
+#[test]
+fn a_timer_runs_out_once(rt: HostRuntime) {
+    let mut timer = Trial::of(Contents::Stopped { status: 0 });
+    let start = Ask::TimerStart { deadline: 3 };
+    let one = Reply::Num(1);
+    answers(&rt, &timer.act((0, 5), &Ask::TimerSync), DONE);
+    answers(&rt, &timer.act((0, 5), &start), VOID);
+    answers(&rt, &timer.act((0, 5), &start), VOID);
+    answers(&rt, &timer.act((0, 5), &Ask::TimerStatus), DONE);
+    runs_out(&rt, &mut timer, &[]);
+    answers(&rt, &timer.act((0, 5), &Ask::TimerStop), VOID);
+    answers(&rt, &timer.act((0, 5), &Ask::TimerStatus), Answer::Now(one));
+    answers(&rt, &timer.act((0, 5), &Ask::TimerStatus), DONE);
+    answers(&rt, &timer.act((0, 5), &start), VOID);
+    answers(&rt, &timer.act((1, 5), &Ask::TimerSync), Answer::Wait);
+    answers(&rt, &timer.act((2, 3), &Ask::TimerSync), Answer::Wait);
+    runs_out(&rt, &mut timer, &[(2, one)]);
+    answers(&rt, &timer.act((0, 5), &Ask::TimerStatus), DONE);
+    answers(&rt, &timer.act((0, 5), &start), VOID);
+    let stop = Ask::TimerStop;
+    wakes(&rt, &timer.act((0, 5), &stop), VOID, &[(1, ZERO, &[])]);
 }
 
 /// The owner locks again, and nobody else unlocks; what is free isn't unlocked.

@@ -1,11 +1,11 @@
 //! What the services share: answers, waiting and waking.
 
-ghost use Rattle.std.specs.Prelude.{◌≡◌, ◌<◌, ◌≤◌, [], ◌∷◌, length};
+ghost use Rattle.std.specs.Prelude.{◌≡◌, ◌<◌, ◌≤◌, [], ◌∷◌, ◌++◌, length};
 ghost use Rattle.um_base.specs.declared.act.Answer.TheVariants as Answer;
 ghost use Rattle.um_base.specs.declared.names.Reply.TheVariants as Reply;
 ghost use Rattle.um_machine.specs.{
   declared.contents.Contents.{Contents},
-  Services.{told, all_told, blocks},
+  Services.{told, all_told, blocks, without},
   Serving.{served, unserved},
 };
 ghost use Rattle.um_service.specs.Left.{left};
@@ -28,6 +28,16 @@ pub fn gives(reply: Reply, taken: &Piece, outcome: &mut Outcome)
     outcome.becomes(Answer::Now(reply), taken);
 }
 
+/// The caller waits after all others.
+pub fn waits(waiters: &mut Waiters, who: &Waiter, outcome: &mut Outcome)
+    requires { who.now.thread.0 < THREADS }
+    ensures outcome { outcome.new ≡ record { answer = Answer.Wait; taken = []; woken = [] } }
+    ensures waiters { waiters.new ≡ without who.now.thread.0 waiters.old ++ who.now ∷ [] }
+{
+    waiters.wait(who);
+    outcome.answers(Answer::Wait);
+}
+
 /// The caller waits after all others, or gets an error if it doesn't wait.
 pub fn blocks(
     waiters: &mut Waiters,
@@ -41,10 +51,7 @@ pub fn blocks(
 {
     match timeout {
         Timeout::NoWait => answers(Reply::Fail(error), outcome),
-        Timeout::Forever => {
-            waiters.wait(who);
-            outcome.answers(Answer::Wait);
-        }
+        Timeout::Forever | Timeout::Ticks(_) => waits(waiters, who, outcome),
     }
 }
 

@@ -12,7 +12,7 @@ use std::alloc::Global;
 pub struct Closed<T> {
     pub table: Ended<Option<T>, Global>,
     pub token: Token<Option<T>, View>,
-    /// Closing a board alone makes one.
+    /// Only `Board::close` makes a closed board.
     pub(crate) sealed: (),
     pub ghost full: { IsFull table.words × IsFull table.slots },
 }

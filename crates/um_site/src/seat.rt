@@ -14,7 +14,7 @@ pub struct Seat<T> {
     /// How many seats it, and the seats that it joined, have joined.
     pub joined: u32,
     pub first: bool,
-    /// A board alone gives one out.
+    /// Only a board gives a seat out.
     pub(crate) sealed: (),
     pub ghost live: { token.me.0.live ≡ true },
     pub ghost counted: { split ≡ joined + length token.me.0.children },

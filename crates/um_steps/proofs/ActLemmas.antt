@@ -60,4 +60,6 @@ acts =
     ⊕ thread & last addr ⊕ thread & addr & last left ⊕ addr & last given ⊕ addr & last set ⊕ last addr ⊕ last thread
     ⊕ kind & last (option addr) ⊕ last addr ⊕ number & last flag ⊕ last number ⊕ last addr ⊕ number & last reply
     ⊕ number & range & attr & last reply ⊕ number & range & attr & last reply ⊕ number & thread & last reply ⊕ last thread ⊕ none
-    ⊕ number & last cause ⊕ last thread ⊕ none ⊕ done)
+    ⊕ number & last cause ⊕ last thread ⊕ none ⊕ last number ⊕ last number ⊕ last thread ⊕ addr & last woken ⊕ thread & last flag
+    ⊕ thread & last flag ⊕ thread & last flag ⊕ last thread ⊕ none ⊕ thread & last answer ⊕ thread & last woken
+    ⊕ addr & number & last answer ⊕ addr & answer & last woken ⊕ done)

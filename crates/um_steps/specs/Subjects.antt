@@ -43,6 +43,31 @@ is_alone Instr.Oops = true
 is_alone Instr.Panic = true
 is_alone _ = false
 
--- calls one of the five services
+-- aborts, suspends or resumes a thread, or waits for its end
+abbrev pub is_on_life : Instr → Bool
+is_on_life (Instr.Abort thread) = true
+is_on_life (Instr.Join thread timeout) = true
+is_on_life (Instr.Suspend thread) = true
+is_on_life (Instr.Continue thread) = true
+is_on_life _ = false
+
+-- calls a timer
+abbrev pub is_on_timer : Instr → Bool
+is_on_timer (Instr.TimerStart object ticks) = true
+is_on_timer (Instr.TimerStop object) = true
+is_on_timer (Instr.TimerStatus object to) = true
+is_on_timer (Instr.TimerSync object to) = true
+is_on_timer _ = false
+
+-- waits on a futex, or wakes who waits on one
+abbrev pub is_on_futex : Instr → Bool
+is_on_futex (Instr.FutexWait addr value timeout) = true
+is_on_futex (Instr.FutexWake addr all) = true
+is_on_futex _ = false
+
+-- calls a semaphore, a mutex, a message queue, a stack or a pipe
 abbrev pub is_service : Instr → Bool
-is_service instr = not (is_alone instr || is_access instr || is_on_domain instr || is_on_object instr || is_on_thread instr)
+is_service instr =
+    not (
+    is_alone instr || is_access instr || is_on_domain instr || is_on_object instr || is_on_thread instr || is_on_life instr || is_on_timer instr
+    || is_on_futex instr)

@@ -22,6 +22,8 @@ pub fn nobody() -> Thread
     Thread {
         life: Life::Unborn,
         doomed: false,
+        aborted: false,
+        suspended: false,
         mode: Mode::User,
         domain: 0,
         stack: Row(0),
@@ -36,6 +38,7 @@ pub fn nobody() -> Thread
         pending: Pendings::new(),
         reply: Reply::Void,
         buffer: Piece::new(),
+        until: None,
         told: None,
         checked: [false; ROWS],
         keeps_own: false,
@@ -111,6 +114,7 @@ pub fn set_up(contents: &mut Contents, setup: Setup)
         }
         Setup::Stack { entries } => *contents = Contents::Stack(ValueStack::new(entries)),
         Setup::Pipe { size } => *contents = Contents::Pipe(BytePipe::new(size)),
+        Setup::Timer => *contents = Contents::Stopped { status: 0 },
         _ => {}
     }
 }
@@ -124,7 +128,8 @@ pub fn is_set_up(setup: Setup) -> bool
         | Setup::Mutex
         | Setup::Msgq { .. }
         | Setup::Stack { .. }
-        | Setup::Pipe { .. } => true,
+        | Setup::Pipe { .. }
+        | Setup::Timer => true,
         _ => false,
     }
 }

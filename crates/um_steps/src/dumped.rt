@@ -70,6 +70,14 @@ pub trait Dumped {
         requires { row < ROWS }
         ensures { result.now ≡ (object_at (state self.now) row).waiters };
 
+    /// Who waits for the end of a thread.
+    fn joins(&self) -> &[Waiter]
+        ensures { result.now ≡ (state self.now).joins };
+
+    /// Who waits on a futex.
+    fn futexes(&self) -> &[Waiter]
+        ensures { result.now ≡ (state self.now).futexes };
+
     /// Whether a thread has a pair with the object of a row.
     fn has_pair(&self, thread: usize, row: usize) -> bool
         requires thread { thread < THREADS }

@@ -40,6 +40,7 @@ pub fn kind_number(kind: Kind) -> u8
         Kind::Msgq => 4,
         Kind::Stack => 5,
         Kind::Pipe => 6,
+        Kind::Timer => 7,
     }
 }
 

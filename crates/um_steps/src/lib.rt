@@ -7,6 +7,7 @@ pub mod bytes;
 pub mod costs;
 pub mod domains;
 mod dumped;
+pub mod futexes;
 pub mod holds;
 pub mod kinds;
 pub mod order;
@@ -15,5 +16,7 @@ pub mod registers;
 pub mod rodata;
 pub mod rows;
 pub mod same;
+pub mod time;
+pub mod waits;
 
 pub use dumped::Dumped;

@@ -1,12 +1,13 @@
 -- A step that a cell of tables takes is made there, leaves its contents, and appends its event to the log. After the last step number no
 -- step is made.
-use Rattle.std.proofs.Common.{◌≡◌, ◌<◌, ℕ, ◌+◌, Bool, false, IsTrue, List, ap, ◌∙◌, nat_lt, ◌&&◌, slice_index_or, slice_set, length}
+use Rattle.std.proofs.Common.{◌≡◌, ◌<◌, ℕ, ◌+◌, Bool, true, false, IsTrue, List, ap, refl, ◌∙◌, nat_lt, ◌&&◌, slice_index_or, slice_set, length}
 use Rattle.std.proofs.lemmas.Bool.{lt-ltb}
 use Rattle.std.proofs.lemmas.List.{get_or_read, set-get_or}
 use Rattle.um_base.specs.declared.act.Event.{Event}
 use Rattle.um_base.specs.declared.image.Image.{Image}
 use Rattle.um_words.specs.declared.fine.FineAct.{FineAct}
 use Rattle.um_fine.specs.Cells.{Cell, cell_after, cell_moves, cell_says, cell_takes}
+use Rattle.um_fine.specs.Clock.{Clock}
 use Rattle.um_fine.specs.Sites.{SiteState}
 use Rattle.um_fine.specs.Steps.{Exchange, Site}
 use Rattle.um_fine.proofs.Filled.{filled-twice}
@@ -42,6 +43,23 @@ cell-ends image old p v cpu site n c act moved here denied =
     (ap (λ (b : Bool). b && cell_takes c (cell_says image c moved act)) denied)
     (filled-twice image (SiteState.cell n c) (asked cpu site act moved))
     tt
+
+and-no : (b : Bool) → (b && false) ≡ false
+and-no true = refl
+and-no false = refl
+
+pub cell-refused : (image : Image) (old p : Sited) → p ≡ old → (cpu : ℕ) (site : Site) (n : ℕ) (c : Cell) (act : FineAct) (moved : Exchange)
+    → SiteState.cell n c ≡ state_at p site → cell_takes c (cell_says image c moved act) ≡ false
+    → IsShut image (state_at old site) (cell_made image cpu site n c act moved)
+cell-refused image old p v cpu site n c act moved here denied =
+    refused image old p v (cell_made image cpu site n c act moved) (SiteState.cell n c) here
+    (ap (λ (b : Bool). nat_lt n 268435455 && b) denied ∙ and-no (nat_lt n 268435455))
+    (filled-twice image (SiteState.cell n c) (asked cpu site act moved))
+    tt
+
+-- a clock that is as before leaves all as before
+pub clock-kept : (old p : Sited) → p ≡ old → (c : Clock) → c ≡ p.clock → record p { clock = c } ≡ old
+clock-kept old p v c same = ap (λ (z : Clock). record p { clock = z }) same ∙ v
 
 -- an object's cell that is written back as it was leaves all as before
 pub object-kept : (old p : Sited) → p ≡ old → (x : ℕ) (c : ObjectCell) → c ≡ slice_index_or p.objects x (cleared 0) → record p { objects = slice_set p.objects x c } ≡ old

@@ -1,18 +1,19 @@
 -- The event that tables log is the event of the step, and an inheritance that a row refuses is due there. A change at a site leaves the log.
 use Rattle.std.proofs.Common.{◌≡◌, ℕ, Bool, true, false, None, Some, ◌&&◌, not, ap, refl, ◌∙◌, if◌then◌else◌}
 use Rattle.um_base.specs.declared.act.Act.{Act}
-use Rattle.um_base.specs.declared.act.Event.{Event}
 use Rattle.um_base.specs.declared.act.Leftover.{Leftover}
 use Rattle.um_base.specs.declared.ask.Told.{Told}
 use Rattle.um_base.specs.declared.image.Image.{Image}
+use Rattle.um_machine.specs.declared.thread.Life.{Life}
 use Rattle.um_machine.specs.Order.{to_thread}
+use Rattle.um_machine.specs.State.{is_living}
 use Rattle.um_words.specs.declared.fine.FineAct.{FineAct}
 use Rattle.um_words.specs.declared.fine.More.{More}
 use Rattle.um_words.specs.declared.fine.Unseen.{Unseen}
 use Rattle.um_words.specs.declared.row_word.RowWord.{RowWord}
 use Rattle.um_words.specs.declared.thread_word.ThreadWord.{ThreadWord}
 use Rattle.um_words.specs.Rows.{has}
-use Rattle.um_words.specs.Threads.{thread_after}
+use Rattle.um_words.specs.Threads.{ended_word, flagged, thread_after}
 use Rattle.um_fine.specs.Answers.{thread_in}
 use Rattle.um_fine.specs.Cells.{Cell}
 use Rattle.um_fine.specs.Context.{Context}
@@ -21,7 +22,7 @@ use Rattle.um_fine.specs.Memory.{Bytes, memory_says}
 use Rattle.um_fine.specs.Scheduler.{takes_turn}
 use Rattle.um_fine.specs.Sites.{SiteState, filled}
 use Rattle.um_fine.specs.Steps.{Exchange, FineStep, Site}
-use Rattle.um_fine.specs.Threads.{unless_doomed}
+use Rattle.um_fine.specs.Threads.{unless_stopped}
 use Rattle.um_tables.specs.Asked.{asked, by_thread, event_of, shown}
 use Rattle.um_tables.specs.HeapActs.{heap_act, heap_event, heap_said}
 use Rattle.um_tables.specs.MemoryActs.{memory_act, memory_event, memory_said}
@@ -29,7 +30,7 @@ use Rattle.um_tables.specs.Parked.{some_if}
 use Rattle.um_words.specs.RowActs.{row_event}
 use Rattle.um_tables.specs.RowActs.{row_made, row_said}
 use Rattle.um_tables.specs.Sited.{IsDue, IsSeen, Sited, WasMade, logged, with_state}
-use Rattle.um_words.specs.ThreadActs.{thread_event}
+use Rattle.um_words.specs.ThreadActs.{event_unless_stopped, thread_event}
 use Rattle.um_tables.specs.ThreadActs.{thread_made}
 use Rattle.um_tables.specs.declared.heap_act.HeapAct.{HeapAct}
 use Rattle.um_tables.specs.declared.memory_act.MemoryAct.{MemoryAct}
@@ -68,28 +69,38 @@ module _ (image : Image) (cpu x : ℕ) (w : RowWord) where
       by false = tt
   row-seen act = tt
 
--- an event by which a thread at rest goes on, unless it is doomed
-at-rest : (w : ThreadWord) (e : Event) (b : Bool) → w.doomed ≡ b
-    → (if w.doomed then None else Some e) ≡ event_of (unless_doomed b (FineAct.Shown e More.Nothing))
-at-rest w e true h = ap (λ (d : Bool). if d then None else Some e) h
-at-rest w e false h = ap (λ (d : Bool). if d then None else Some e) h
+-- of a thread at rest that would go on, the event is by the word that is left
+-- a thread that gets or loses a flag lives as before
+kept-life : (w z : ThreadWord) → z.life ≡ w.life → (flagged w z).life ≡ w.life
+kept-life w z h = by (is_living w.life)
+  where
+    by : (b : Bool) → (if b then z else w).life ≡ w.life
+    by true = h
+    by false = refl
 
 pub thread-event : (image : Image) (cpu t : ℕ) (w : ThreadWord) (act : ThreadAct)
     → thread_event act (thread_in (thread_made image cpu t w act).word) ≡ event_of (thread_made image cpu t w act).act
-thread-event image cpu t w (ThreadAct.Begin who script line) = by w.doomed refl
+thread-event image cpu t w (ThreadAct.Begin who script line) = begins w.doomed w.aborted w.suspended refl refl refl
   where
-    by : (b : Bool) → w.doomed ≡ b
-        → (if (thread_after w (unless_doomed b (shown who (Act.Begin script line) More.Nothing))).doomed then None else Some (by_thread who (Act.Begin script line)))
-        ≡ event_of (unless_doomed b (shown who (Act.Begin script line) More.Nothing))
-    by true h = at-rest w (by_thread who (Act.Begin script line)) true h
-    by false h = at-rest w (by_thread who (Act.Begin script line)) false h
-thread-event image cpu t w (ThreadAct.Exit who) = by w.doomed refl
+    begins : (doomed aborted suspended : Bool) → w.doomed ≡ doomed → w.aborted ≡ aborted → w.suspended ≡ suspended
+        → let made = unless_stopped doomed aborted suspended (by_thread who (Act.Begin script line)) More.Nothing in
+        event_unless_stopped (thread_after w made) who (Act.Begin script line) ≡ event_of made
+    begins true aborted suspended d a s = ap (λ (b : Bool). event_unless_stopped (record w { doomed = b }) who (Act.Begin script line)) d
+    begins false true suspended d a s = λ i. event_unless_stopped (record (ended_word w) { doomed = d i; aborted = a i }) who (Act.Begin script line)
+    begins false false true d a s = λ i. event_unless_stopped (record w { doomed = d i; aborted = a i; suspended = s i }) who (Act.Begin script line)
+    begins false false false d a s = λ i. event_unless_stopped (record w { doomed = d i; aborted = a i; suspended = s i }) who (Act.Begin script line)
+thread-event image cpu t w (ThreadAct.Exit who) = ends w.doomed w.aborted w.suspended refl refl refl
   where
-    by : (b : Bool) → w.doomed ≡ b
-        → (if (thread_after w (unless_doomed b (shown who Act.Exit More.Nothing))).doomed then None else Some (by_thread who Act.Exit))
-        ≡ event_of (unless_doomed b (shown who Act.Exit More.Nothing))
-    by true h = at-rest w (by_thread who Act.Exit) true h
-    by false h = at-rest w (by_thread who Act.Exit) false h
+    ends : (doomed aborted suspended : Bool) → w.doomed ≡ doomed → w.aborted ≡ aborted → w.suspended ≡ suspended
+        → let made = unless_stopped doomed aborted suspended (by_thread who Act.Exit) More.Nothing in
+        event_unless_stopped (thread_after w made) who Act.Exit ≡ event_of made
+    ends true aborted suspended d a s = ap (λ (b : Bool). event_unless_stopped (record w { doomed = b }) who Act.Exit) d
+    ends false true suspended d a s = λ i. event_unless_stopped (record (ended_word w) { doomed = d i; aborted = a i }) who Act.Exit
+    ends false false true d a s = λ i. event_unless_stopped (record w { doomed = d i; aborted = a i; suspended = s i }) who Act.Exit
+    ends false false false d a s = λ i. event_unless_stopped (record (ended_word w) { doomed = d i; aborted = a i; suspended = s i }) who Act.Exit
+thread-event image cpu t w (ThreadAct.Abort by who) = ap (λ (l : Life). Some (by_thread by (Act.Abort who (is_living l)))) (kept-life w (record w { aborted = true }) refl)
+thread-event image cpu t w (ThreadAct.Suspend by who) = ap (λ (l : Life). Some (by_thread by (Act.Suspend who (is_living l)))) (kept-life w (record w { suspended = true }) refl)
+thread-event image cpu t w (ThreadAct.Continue by who) = ap (λ (l : Life). Some (by_thread by (Act.Continue who (is_living l)))) (kept-life w (record w { suspended = false }) refl)
 thread-event image cpu t w act = refl
 
 pub heap-event : (image : Image) (h : Heap) (moved : Exchange) (act : HeapAct)
@@ -118,6 +129,8 @@ log-kept s (Site.object x) (SiteState.cell n (Cell.object o)) = (refl, refl)
 log-kept s Site.memory (SiteState.cell n (Cell.memory m)) = (refl, refl)
 log-kept s Site.heap (SiteState.cell n (Cell.heap h)) = (refl, refl)
 log-kept s Site.scheduler (SiteState.cell n (Cell.scheduler t)) = (refl, refl)
+log-kept s Site.clock (SiteState.cell n (Cell.clock c)) = (refl, refl)
+log-kept s Site.joins (SiteState.cell n (Cell.joins j)) = (refl, refl)
 log-kept s site state = (refl, refl)
 
 -- a step that was made stands last in the log, where it shows an event

@@ -9,7 +9,7 @@ use Rattle.um_words.specs.declared.fine.FineAct.{FineAct}
 use Rattle.um_words.specs.declared.fine.Unseen.{Unseen}
 use Rattle.um_fine.specs.Cells.{Cell}
 use Rattle.um_fine.specs.Context.{Context, no_context}
-use Rattle.um_fine.specs.Scheduler.{Scheduler, first_ready, first_taken, has_ready, parked_at, sched_after, sched_moves, sched_says, sched_takes, takes_turn, told_at, turn_in}
+use Rattle.um_fine.specs.Scheduler.{Scheduler, first_ready, first_taken, has_ready, is_cut, parked_at, sched_after, sched_moves, sched_says, sched_takes, takes_turn, to_kill, told_at, turn_in}
 use Rattle.um_fine.specs.Sites.{SiteState}
 use Rattle.um_fine.specs.Steps.{Exchange, Site}
 use Rattle.um_fine.proofs.Filled.{filled-twice}
@@ -67,7 +67,7 @@ turn-takes s c (Some told) = refl
 
 first-takes : (s : Scheduler) (who : ThreadIx) (ready : List ℕ) → sched_takes s (turn_in (FineAct.Unseen (Unseen.Next who)) (first_ready s ready)) ≡ has_ready s s.ready
 first-takes s who [] = refl
-first-takes s who (t ∷ ready) = turn-takes s (unwrap_or (parked_at s t) no_context) (told_at s t)
+first-takes s who (t ∷ ready) = turn-takes s (to_kill (is_cut s t) (unwrap_or (parked_at s t) no_context)) (told_at s t)
 
 pub next-takes : (s : Scheduler) (who : ThreadIx) → sched_takes s (sched_says s Exchange.nothing (FineAct.Unseen (Unseen.Next who))) ≡ has_ready s s.ready
 next-takes s who = first-takes s who s.ready
@@ -78,7 +78,7 @@ turn-after s c (Some told) moved = refl
 
 first-after : (s : Scheduler) (who : ThreadIx) (ready : List ℕ) (moved : Exchange) → sched_after s (turn_in (FineAct.Unseen (Unseen.Next who)) (first_ready s ready)) moved ≡ first_taken s s.ready
 first-after s who [] moved = refl
-first-after s who (t ∷ ready) moved = turn-after s (unwrap_or (parked_at s t) no_context) (told_at s t) moved
+first-after s who (t ∷ ready) moved = turn-after s (to_kill (is_cut s t) (unwrap_or (parked_at s t) no_context)) (told_at s t) moved
 
 pub next-after : (s : Scheduler) (who : ThreadIx) (moved : Exchange) → sched_after s (sched_says s Exchange.nothing (FineAct.Unseen (Unseen.Next who))) moved ≡ first_taken s s.ready
 next-after s who moved = first-after s who s.ready moved

@@ -20,13 +20,13 @@ use Rattle.um_words.specs.DomainActs.{domain_act, domain_takes_at}
 use Rattle.um_words.specs.Domains.{DomainMay, domain_takes}
 use Rattle.um_words.specs.RowActs.{drop_said, quiet, row_act, row_act_at, row_answers, row_takes_at}
 use Rattle.um_words.specs.Rows.{RowMay, counted_row, dropped, has, left_of, row_takes}
-use Rattle.um_words.specs.ShownActs.{shown}
+use Rattle.um_words.specs.ShownActs.{by_thread, shown}
 use Rattle.um_words.specs.ThreadActs.{thread_act, thread_act_at, thread_takes_at}
 use Rattle.um_words.specs.Threads.{ThreadMay, counted_thread, thread_after, thread_takes}
 use Rattle.um_fine.proofs.Filled.{filled-twice}
 use Rattle.um_fine.specs.Sites.{SiteState, filled}
 use Rattle.um_fine.specs.Steps.{Exchange, FineStep, Site, Word}
-use Rattle.um_fine.specs.Threads.{thread_answers, unless_doomed}
+use Rattle.um_fine.specs.Threads.{thread_answers, unless_stopped}
 use Rattle.um_tables.specs.Asked.{Refuses, Takes, asked}
 use Rattle.um_tables.specs.DomainActs.{domain_made}
 use Rattle.um_tables.specs.RowActs.{row_made, row_said}
@@ -81,14 +81,21 @@ module _ (image : Image) (cpu x : ℕ) (w : RowWord) where
   row-refuses act r = r
 
 module _ (image : Image) (cpu t : ℕ) (w : ThreadWord) where
-  -- a doomed thread begins nothing: its word is read instead
-  rests : (b : Bool) (act : FineAct) → unless_doomed b act ≡ (if b then FineAct.Unseen Unseen.WordRead else act)
-  rests true act = refl
-  rests false act = refl
+  -- a thread that is stopped begins nothing: it is killed, or its word is read instead
+  rests : (doomed aborted suspended : Bool) (t : ThreadIx) (act : Act)
+      → unless_stopped doomed aborted suspended (by_thread t act) More.Nothing
+      ≡ (if doomed then FineAct.Unseen Unseen.WordRead
+      else if aborted then shown t Act.Killed More.Nothing
+      else if suspended then FineAct.Unseen Unseen.WordRead
+      else shown t act More.Nothing)
+  rests true aborted suspended t act = refl
+  rests false true suspended t act = refl
+  rests false false true t act = refl
+  rests false false false t act = refl
 
   thread-told : (act : ThreadAct) → thread_answers w (thread_act act) ≡ thread_act_at w act
-  thread-told (ThreadAct.Begin by script line) = rests w.doomed (shown by (Act.Begin script line) More.Nothing)
-  thread-told (ThreadAct.Exit by) = rests w.doomed (shown by Act.Exit More.Nothing)
+  thread-told (ThreadAct.Begin by script line) = rests w.doomed w.aborted w.suspended by (Act.Begin script line)
+  thread-told (ThreadAct.Exit by) = rests w.doomed w.aborted w.suspended by Act.Exit
   thread-told act = refl
 
   pub thread-takes : (act : ThreadAct) (z : ThreadWord) → ThreadMay w (thread_act_at w act) z

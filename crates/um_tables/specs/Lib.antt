@@ -13,3 +13,9 @@ pub mod MemoryActs
 pub mod Placed
 pub mod ObjectCells
 pub mod Lending
+pub mod Seekers
+pub mod Looks
+pub mod JoinActs
+pub mod ClockActs
+pub mod FutexActs
+pub mod Timed

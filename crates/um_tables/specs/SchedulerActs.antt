@@ -30,3 +30,14 @@ parked_made image cpu n s c = scheduler_made image cpu n s (Unseen.Park (to_thre
 
 abbrev pub done_made : Image → ℕ → ℕ → Scheduler → FineStep
 done_made image cpu n s = scheduler_made image cpu n s Unseen.Done Exchange.nothing
+
+-- a thread that was cut is to be killed
+abbrev pub cut_made : Image → ℕ → ℕ → Scheduler → ThreadIx → FineStep
+cut_made image cpu n s who = scheduler_made image cpu n s (Unseen.Cut who false) Exchange.nothing
+
+-- a mark is owed, and paid
+abbrev pub owed_made : Image → ℕ → ℕ → Scheduler → FineStep
+owed_made image cpu n s = scheduler_made image cpu n s Unseen.Owe Exchange.nothing
+
+abbrev pub paid_made : Image → ℕ → ℕ → Scheduler → FineStep
+paid_made image cpu n s = scheduler_made image cpu n s Unseen.Paid Exchange.nothing

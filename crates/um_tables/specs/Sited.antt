@@ -12,7 +12,9 @@ use Rattle.um_words.specs.declared.dom_word.DomWord.{DomWord}
 use Rattle.um_words.specs.Rows.{has}
 use Rattle.um_fine.specs.Answers.{no_domain, no_row, no_thread}
 use Rattle.um_fine.specs.Cells.{Cell}
+use Rattle.um_fine.specs.Clock.{Clock}
 use Rattle.um_fine.specs.Heap.{Heap}
+use Rattle.um_fine.specs.Joins.{Joins}
 use Rattle.um_fine.specs.Memory.{Bytes}
 use Rattle.um_fine.specs.Scheduler.{Scheduler}
 use Rattle.um_fine.specs.Steps.{FineStep, Site}
@@ -23,7 +25,7 @@ use Rattle.um_tables.specs.declared.object_cell.ObjectCell.{ObjectCell}
 use Rattle.um_tables.specs.ObjectCells.{cleared, kept_in}
 use Rattle.um_tables.specs.declared.said.Said.{Said}
 
--- the words of all rows, thread indices and domains, the cells of domains and of objects, and those of memory, the heap and the scheduler with the steps that they have taken;
+-- the words of all rows, thread indices and domains, the cells of domains and of objects, and those of memory, the heap, the scheduler, the clock and the joins with the steps that they have taken;
 -- the events of all steps so far, in their order, and how many the log has room for
 pub record Sited : Type 0 where
   pub rows : List RowWord
@@ -38,6 +40,10 @@ pub record Sited : Type 0 where
   pub heap_steps : ℕ
   pub scheduler : Scheduler
   pub scheduler_steps : ℕ
+  pub clock : Clock
+  pub clock_steps : ℕ
+  pub joins : Joins
+  pub joins_steps : ℕ
   pub log : List Event
   pub most : ℕ
 
@@ -73,6 +79,8 @@ state_at s (Site.object x) = object_state (slice_index_or s.objects x (cleared 0
 state_at s Site.memory = SiteState.cell s.memory_steps (Cell.memory s.memory)
 state_at s Site.heap = SiteState.cell s.heap_steps (Cell.heap s.heap)
 state_at s Site.scheduler = SiteState.cell s.scheduler_steps (Cell.scheduler s.scheduler)
+state_at s Site.clock = SiteState.cell s.clock_steps (Cell.clock s.clock)
+state_at s Site.joins = SiteState.cell s.joins_steps (Cell.joins s.joins)
 
 abbrev pub with_state : Sited → Site → SiteState → Sited
 with_state s (Site.row x) (SiteState.row w) = record s { rows = slice_set s.rows x w }
@@ -81,10 +89,12 @@ with_state s (Site.domain d) (SiteState.domain w) = record s { domains = slice_s
 with_state s (Site.parts d) (SiteState.cell n (Cell.parts parts)) =
     record s { domain_cells = slice_set s.domain_cells d (record { parts = parts; steps = n }) }
 with_state s (Site.object x) (SiteState.cell n (Cell.object o)) =
-    record s { objects = slice_set s.objects x (record { contents = o.contents; waiters = o.waiters; buffer = o.buffer; steps = n }) }
+    record s { objects = slice_set s.objects x (record { contents = o.contents; waiters = o.waiters; noted = o.noted; buffer = o.buffer; steps = n }) }
 with_state s Site.memory (SiteState.cell n (Cell.memory m)) = record s { memory = m; memory_steps = n }
 with_state s Site.heap (SiteState.cell n (Cell.heap h)) = record s { heap = h; heap_steps = n }
 with_state s Site.scheduler (SiteState.cell n (Cell.scheduler t)) = record s { scheduler = t; scheduler_steps = n }
+with_state s Site.clock (SiteState.cell n (Cell.clock c)) = record s { clock = c; clock_steps = n }
+with_state s Site.joins (SiteState.cell n (Cell.joins j)) = record s { joins = j; joins_steps = n }
 with_state s site state = s
 
 -- the log with this event appended

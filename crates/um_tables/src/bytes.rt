@@ -1,6 +1,8 @@
 //! The contents of the memory's cell.
 
-ghost use Rattle.std.specs.Prelude.{◌≡◌, ◌+◌, ◌<◌, ◌≤◌, ◌^◌, length, replicate, slice_index, ℕ, IsTrue};
+mod futexes;
+
+ghost use Rattle.std.specs.Prelude.{◌≡◌, [], ◌+◌, ◌<◌, ◌≤◌, ◌^◌, length, replicate, slice_index, ℕ, IfOk, IsTrue};
 ghost use Rattle.um_base.specs.{
   declared.act.Act.{Act},
   declared.limits.TheConstants.{AREA_SIZE},
@@ -10,6 +12,7 @@ ghost use Rattle.um_base.specs.{
 ghost use Rattle.um_machine.specs.Memory.{le_bytes, le_value, rodata_of};
 ghost use Rattle.um_fine.specs.{
   Answers.{act_in},
+  Opening.{no_notes},
   Memory.{byte_at, memory_after, read, text_bytes, text_found, write},
   Steps.{Exchange},
 };
@@ -17,10 +20,13 @@ ghost use Rattle.um_tables.specs.MemoryActs.{has_room, memory_answered, memory_g
 
 use crate::memory_act::{MemoryAct, MemorySaid};
 use crate::pieces::copies_first;
+use std::alloc::Global;
 use std::marker::Model;
 use um_base::{
-    AREA_SIZE, Found, Image, PARTITION_AREA, Piece, RODATA, Range, Row, STACK_AREA, Setup,
+    AREA_SIZE, Found, Image, OutOfMemory, PARTITION_AREA, Piece, RODATA, Range, Row, STACK_AREA,
+    Setup, THREADS,
 };
+use um_machine::Waiters;
 use um_steps::bytes::{clear, le_value, part, write};
 use um_steps::rows::setup_at;
 
@@ -33,11 +39,14 @@ const NOTHING: MemorySaid = MemorySaid {
     found: Found::Unreadable,
 };
 
-/// The bytes of the partitions' area and of the stacks' area.
+/// The bytes of the partitions' area and of the stacks' area, and who waits on a futex.
 #[derive(Drop)]
 pub struct Bytes {
     memory: Vec<u8>,
     stacks: Vec<u8>,
+    futexes: Box<Waiters>,
+    /// By thread index: the number of its note when it began to wait here.
+    noted: [u32; THREADS],
 }
 
 impl Model for Bytes {
@@ -47,7 +56,12 @@ impl Model for Bytes {
 
     ghost Value = { Contents };
 
-    ghost view = { λ m. record { memory = m.memory.items; stacks = m.stacks.items } };
+    ghost view = { λ m. record {
+      memory = m.memory.items;
+      stacks = m.stacks.items;
+      futexes = m.futexes.value;
+      noted = m.noted;
+    } };
 
     ghost invariant = { λ m. length m.stacks.items ≤ AREA_SIZE };
 }
@@ -73,12 +87,17 @@ fn stack_of(image: &Image, stack: Row) -> Option<Range>
 }
 
 impl Bytes {
-    /// Makes the contents from these two areas.
-    pub fn new(memory: Vec<u8>, stacks: Vec<u8>) -> Bytes
+    /// Makes the contents from these two areas, where nobody waits.
+    pub fn new(alloc: Global, memory: Vec<u8>, stacks: Vec<u8>) -> Result<Bytes, OutOfMemory>
         requires { length stacks.items ≤ AREA_SIZE }
-        ensures { result ≡ record { memory = memory.items; stacks = stacks.items } }
+        ensures { IfOk result (λ b. b ≡ record { memory = memory.items; stacks = stacks.items; futexes = []; noted = no_notes }) }
     {
-        Bytes { memory, stacks }
+        Ok(Bytes {
+            memory,
+            stacks,
+            futexes: Box::new(alloc, Waiters::new())?,
+            noted: [0; THREADS],
+        })
     }
 
     /// The bytes of the area of the partitions.

@@ -8,6 +8,7 @@ mod leaves;
 mod lines;
 mod objects;
 mod reads;
+mod stops;
 
 ghost use Rattle.std.specs.Prelude.{◌≡◌, ◌<◌, drop};
 ghost use Rattle.um_base.specs.declared.limits.TheConstants.{THREADS};
@@ -32,6 +33,8 @@ pub struct Context {
     own: Thread,
     /// The rows that its call holds, in the order of the checks.
     claims: ArrayVec<u8, 2>,
+    /// The number of the step by which its word notes the cell in which its call may wait.
+    noted: Option<u32>,
 }
 
 impl Model for Context {
@@ -42,7 +45,7 @@ impl Model for Context {
 
     ghost Value = { OwnPart };
 
-    ghost view = { λ c. own_part c.thread c.ended c.own c.claims.items };
+    ghost view = { λ c. own_part c.thread c.ended c.own c.claims.items c.noted };
 
     ghost invariant = { λ c. (c.thread < THREADS) × IsOwn c.own × All (λ x. x < ROWS) c.claims.items };
 }
@@ -57,6 +60,7 @@ impl Context {
             ended: false,
             own: nobody(),
             claims: ArrayVec::new(),
+            noted: None,
         }
     }
 
@@ -76,11 +80,13 @@ impl Context {
         own.place = me.place;
         own.reply = me.reply;
         own.buffer = me.buffer;
+        own.until = me.until;
         Context {
             thread,
             ended: false,
             own,
             claims: ArrayVec::new(),
+            noted: None,
         }
     }
 

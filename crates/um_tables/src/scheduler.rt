@@ -1,7 +1,7 @@
 //! The contents of the scheduler's cell.
 
 ghost use Rattle.std.specs.{
-  Prelude.{◌≡◌, ◌<◌, ◌≤◌, ◌&&◌, ◌||◌, [], false, length, nat_lt, is_some, not, pos, replicate, slice_index_or, true, IfOk, IsTrue, MatchOption},
+  Prelude.{◌≡◌, ◌+◌, ◌-◌, ◌<◌, ◌≤◌, ◌&&◌, ◌||◌, [], false, length, nat_lt, is_some, not, pos, replicate, slice_index_or, true, IfOk, IsTrue, MatchOption},
   List.{All},
 };
 ghost use Rattle.um_base.specs.declared.limits.TheConstants.{THREADS};
@@ -13,7 +13,7 @@ ghost use Rattle.um_fine.specs.{
 ghost use Rattle.um_machine.specs.State.{is_living};
 ghost use Rattle.um_tables.specs.{
   Contexts.{rests},
-  Parked.{awake, nobody, resting, scheduler_of, some_if},
+  Parked.{awake, nobody, resting, scheduler_of, some_if, stopped},
 };
 
 use crate::context::Context;
@@ -24,13 +24,15 @@ use std::marker::Model;
 use um_base::{OutOfMemory, THREADS, ThreadIx, Told};
 use um_machine::{Life, Thread};
 
-/// The ready list, the threads that no processor runs, and how many threads run.
+/// The ready list, the threads that no processor runs, how many threads run, and how many marks are owed.
 #[derive(Drop)]
 pub struct Scheduler {
     ready: ArrayVec<u8, THREADS>,
     /// By thread index.
     places: Vec<Parked>,
     running: u8,
+    /// Below 2^19.
+    owed: u32,
 }
 
 impl Model for Scheduler {
@@ -41,16 +43,16 @@ impl Model for Scheduler {
 
     ghost Value = { Contents };
 
-    ghost view = { λ s. scheduler_of s.ready.items s.places.items s.running };
+    ghost view = { λ s. scheduler_of s.ready.items s.places.items s.running s.owed };
 
     ghost invariant = { λ s. (length s.places.items ≡ THREADS) × All (λ t. t < THREADS) s.ready.items };
 }
 
 /// Whether a thread stands in the ready list once it is put back.
-fn is_ready(waits: bool, is_told: bool) -> bool
-    ensures { result ≡ (not waits || is_told) }
+fn is_ready(waits: bool, is_told: bool, is_cut: bool) -> bool
+    ensures { result ≡ (not waits || is_told || is_cut) }
 {
-    !waits || is_told
+    !waits || is_told || is_cut
 }
 
 /// Adds a thread to the ready list, if it is ready.
@@ -114,12 +116,13 @@ fn all_resting(alloc: Global, threads: &[Thread]) -> Result<Vec<Parked>, OutOfMe
 impl Scheduler {
     /// Makes the contents without threads, with room for each.
     pub fn new(alloc: Global) -> Result<Scheduler, OutOfMemory>
-        ensures { IfOk result (λ s. s ≡ scheduler_of [] (replicate THREADS nobody) 0) }
+        ensures { IfOk result (λ s. s ≡ scheduler_of [] (replicate THREADS nobody) 0 0) }
     {
         Ok(Scheduler {
             ready: ArrayVec::new(),
             places: places(alloc)?,
             running: 0,
+            owed: 0,
         })
     }
 
@@ -132,12 +135,13 @@ impl Scheduler {
         requires ready { All (λ t. t < THREADS) ready.items }
         requires all { length threads.now ≡ THREADS }
         requires rest { All rests threads.now }
-        ensures { IfOk result (λ s. s ≡ scheduler_of ready.items (indexed resting 0 threads.now) 0) }
+        ensures { IfOk result (λ s. s ≡ scheduler_of ready.items (indexed resting 0 threads.now) 0 0) }
     {
         Ok(Scheduler {
             ready,
             places: all_resting(alloc, threads)?,
             running: 0,
+            owed: 0,
         })
     }
 
@@ -196,7 +200,7 @@ impl Scheduler {
         let thread = context.thread();
         let waits = context.waits();
         let place = &mut self.places[thread as usize];
-        let ready = is_ready(waits, place.is_told());
+        let ready = is_ready(waits, place.is_told(), place.is_cut());
         place.put(context);
         join(&mut self.ready, thread, ready);
         self.running -= 1;
@@ -219,6 +223,48 @@ impl Scheduler {
         place.tell(told);
         join(&mut self.ready, who.0, ready);
         Some(ready)
+    }
+
+    /// Keeps that a thread was cut, and makes it ready if it has been put back. Returns whether it has.
+    pub fn cut(&mut self, who: ThreadIx) -> Option<bool>
+        requires { who.0 < THREADS }
+        ensures { MatchOption result
+            ((self.new ≡ self.old) × (has_place self.old ≡ false))
+            (λ ready. IsTrue (has_place self.old) × (ready ≡ is_some (parked_at self.old who.0))
+            × (self.new ≡ stopped self.old ready who.0)) }
+    {
+        if self.ready.len() >= THREADS {
+            return None;
+        }
+        let place = &mut self.places[who.0 as usize];
+        let ready = place.is_there();
+        place.cut();
+        join(&mut self.ready, who.0, ready);
+        Some(ready)
+    }
+
+    /// One mark more is owed. Returns whether there is room for that.
+    pub fn owe(&mut self) -> bool
+        ensures made { IsTrue result → (self.old.owed < 524287) × (self.new ≡ record self.old { owed = self.old.owed + 1 }) }
+        ensures refused { result ≡ false → (self.new ≡ self.old) × (nat_lt self.old.owed 524287 ≡ false) }
+    {
+        if self.owed >= 524_287 {
+            return false;
+        }
+        self.owed += 1;
+        true
+    }
+
+    /// One mark less is owed. Returns whether one was.
+    pub fn pay(&mut self) -> bool
+        ensures made { IsTrue result → (0 < self.old.owed) × (self.new ≡ record self.old { owed = self.old.owed - 1 }) }
+        ensures refused { result ≡ false → (self.new ≡ self.old) × (self.old.owed ≡ 0) }
+    {
+        if self.owed == 0 {
+            return false;
+        }
+        self.owed -= 1;
+        true
     }
 
     /// Makes a new thread ready, and gives the room for it back. Returns whether the ready list had a place.
@@ -250,6 +296,13 @@ impl Scheduler {
         ensures { result ≡ length self.now.ready }
     {
         self.ready.len() as u8
+    }
+
+    /// How many marks are owed.
+    pub fn owed(&self) -> u32
+        ensures { result ≡ self.now.owed }
+    {
+        self.owed
     }
 
     /// How many threads run.

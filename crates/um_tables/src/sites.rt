@@ -1,6 +1,6 @@
 //! How a processor reaches the sites that it shares.
 
-ghost use Rattle.std.specs.Prelude.{◌≡◌, ◌<◌, ℕ, IsTrue, Option};
+ghost use Rattle.std.specs.Prelude.{◌≡◌, ◌<◌, ℕ, IsTrue, Option, not, true};
 ghost use Rattle.um_base.specs.{declared.limits.TheConstants.{DOMAINS, ROWS, THREADS}, Regions.{Partitions}};
 ghost use Rattle.um_machine.specs.{Domains.{reply_to}, Limits.{is_sound_ask}};
 ghost use Rattle.um_words.specs.declared.{
@@ -9,37 +9,48 @@ ghost use Rattle.um_words.specs.declared.{
   dom_word.DomWord.{DomWord},
 };
 ghost use Rattle.um_fine.specs.{
-  Answers.{domain_in, thread_in},
+  Answers.{act_in, answer_in, deadline_in, domain_in, is_shut_act, is_void, thread_in, woken_in},
+  Clock.{Clock},
+  Follows.{told_all},
   Heap.{Heap},
+  Joins.{Joins},
   Memory.{Bytes},
   Objects.{ObjectCell},
   Processor.{edit_of},
   Scheduler.{Scheduler},
+  Sites.{is_site},
   Steps.{Exchange, Site},
 };
 ghost use Rattle.um_tables.specs.{
+  ClockActs.{armed_made, given_made, settled_made, ticked_made},
   DomainActs.{domain_made},
   DomainCells.{edited_made, loaded_made},
+  FutexActs.{futex_made, waited_made},
   HeapActs.{heap_made, heap_said},
+  JoinActs.{RousedIs, joined_made, left_made, roused_made, slept_made, unshut_made},
+  Looks.{looked_in, site_in},
   MemoryActs.{Tells, has_room, memory_made},
-  ObjectCells.{cleared_made, looked_made, named_made, outcome_by, worked_made},
+  ObjectCells.{cleared_made, expired_made, looked_made, named_made, outcome_by, worked_made},
   RowActs.{row_made, row_said},
   Parked.{some_if},
-  SchedulerActs.{added_made, done_made, parked_made, taken_made, woken_made},
+  SchedulerActs.{added_made, cut_made, done_made, owed_made, paid_made, parked_made, taken_made, woken_made},
   Answers.{Answers, CanAsk, CanAskCell, CellAnswers, CellKeeps, CellTakes, CellWrites},
   Sited.{IfMade},
   ThreadActs.{thread_made},
 };
 
 use crate::context::Context;
+use crate::futex_act::{FutexWait, FutexWake};
 use crate::heap_act::{HeapAct, HeapSaid};
 use crate::here::Here;
+use crate::look::{Look, Waiting};
 use crate::memory_act::{MemoryAct, MemorySaid};
 use crate::said::Said;
-use um_base::{Addr, Image, Parts, Piece, Reply, Row, ThreadIx, Told, Waiter};
+use crate::seeker::Seeker;
+use um_base::{Addr, Answer, Image, Parts, Piece, Reply, Row, ThreadIx, Timeout, Told, Waiter};
 use um_machine::{Cost, Pending};
-use um_service::Outcome;
-use um_words::{DomWord, DomainAct, RowAct, RowSaid, ThreadAct, ThreadWord};
+use um_service::{Outcome, Woken};
+use um_words::{DomWord, DomainAct, Mark, RowAct, RowSaid, ThreadAct, ThreadWord};
 
 /// The sites that a processor shares with others, wherever they are kept. Each call asks for one step by the processor with this number.
 /// The caller doesn't learn the site's state; its contract says that in some state of the site's sort the step was made or is refused.
@@ -134,13 +145,14 @@ pub trait Sites {
             (Kept self.old self.new) (Contended here.now.image.now self.old (Site.parts domain) self.new)
             (λ before e reply. reply ≡ reply_to (edit_of here.now.image.now call.now before)) };
 
-    /// Does a call's work on the object of a row, at this address, and writes the outcome.
+    /// Does a call's work on the object of a row, at this address, for a thread with a note of this number. Writes the outcome.
     fn work(
         &mut self,
         here: &Here,
         row: Row,
         addr: Addr,
         who: &Waiter,
+        noted: u32,
         outcome: &mut Outcome,
     ) -> Said<()>
         requires image { IsOf here.now.image.now self.old }
@@ -148,14 +160,14 @@ pub trait Sites {
         requires thread { who.now.thread.0 < THREADS }
         requires sound { IsTrue (is_sound_ask who.now.ask) }
         requires goes { CanAskCell (May here.now.image.now self.old)
-            (λ n o. worked_made here.now.image.now here.now.cpu row.0 n o addr who.now) }
+            (λ n o. worked_made here.now.image.now here.now.cpu row.0 n o addr who.now noted) }
         ensures image { IsOf here.now.image.now self.new }
         ensures said { CellWrites result
-            (λ n o. worked_made here.now.image.now here.now.cpu row.0 n o addr who.now)
+            (λ n o. worked_made here.now.image.now here.now.cpu row.0 n o addr who.now noted)
             (λ e. Took here.now.image.now self.old e self.new)
             (λ e. Shut here.now.image.now self.old e self.new)
             (Kept self.old self.new) (Contended here.now.image.now self.old (Site.object row.0) self.new)
-            (λ e said. e.moved ≡ Exchange.asked who.now (outcome_by outcome.new))
+            (λ e said. e.moved ≡ Exchange.asked who.now noted (outcome_by outcome.new))
             (outcome.new ≡ outcome.old) };
 
     /// Gives the thread object of a row this name, on behalf of a thread.
@@ -293,4 +305,231 @@ pub trait Sites {
             (λ e. Took here.now.image.now self.old e self.new)
             (λ e. Shut here.now.image.now self.old e self.new)
             (Kept self.old self.new) (Contended here.now.image.now self.old Site.scheduler self.new) };
+
+    /// Keeps that a thread was cut: it is to be killed when it is taken.
+    fn cut(&mut self, here: &Here, who: ThreadIx) -> Said<()>
+        requires image { IsOf here.now.image.now self.old }
+        requires thread { who.0 < THREADS }
+        requires goes { CanAskCell (May here.now.image.now self.old)
+            (λ n s. cut_made here.now.image.now here.now.cpu n s who) }
+        ensures image { IsOf here.now.image.now self.new }
+        ensures said { CellTakes result
+            (λ n s. cut_made here.now.image.now here.now.cpu n s who)
+            (λ e. Took here.now.image.now self.old e self.new)
+            (λ e. Shut here.now.image.now self.old e self.new)
+            (Kept self.old self.new) (Contended here.now.image.now self.old (Site.scheduler) self.new) };
+
+    /// One mark more is owed.
+    fn owe(&mut self, here: &Here) -> Said<()>
+        requires image { IsOf here.now.image.now self.old }
+        requires goes { CanAskCell (May here.now.image.now self.old)
+            (λ n s. owed_made here.now.image.now here.now.cpu n s) }
+        ensures image { IsOf here.now.image.now self.new }
+        ensures said { CellTakes result
+            (λ n s. owed_made here.now.image.now here.now.cpu n s)
+            (λ e. Took here.now.image.now self.old e self.new)
+            (λ e. Shut here.now.image.now self.old e self.new)
+            (Kept self.old self.new) (Contended here.now.image.now self.old (Site.scheduler) self.new) };
+
+    /// One mark less is owed.
+    fn pay(&mut self, here: &Here) -> Said<()>
+        requires image { IsOf here.now.image.now self.old }
+        requires goes { CanAskCell (May here.now.image.now self.old)
+            (λ n s. paid_made here.now.image.now here.now.cpu n s) }
+        ensures image { IsOf here.now.image.now self.new }
+        ensures said { CellTakes result
+            (λ n s. paid_made here.now.image.now here.now.cpu n s)
+            (λ e. Took here.now.image.now self.old e self.new)
+            (λ e. Shut here.now.image.now self.old e self.new)
+            (Kept self.old self.new) (Contended here.now.image.now self.old (Site.scheduler) self.new) };
+
+    /// Looks for a thread that waits in a cell, and takes it out. Returns whether it waits there.
+    fn look(&mut self, here: &Here, cell: Waiting, look: &Look) -> Said<bool>
+        requires image { IsOf here.now.image.now self.old }
+        requires site { is_site (site_in cell) ≡ true }
+        requires goes { CanAskCell (May here.now.image.now self.old)
+            (λ n kept. looked_in here.now.image.now here.now.cpu cell n kept look.now) }
+        ensures image { IsOf here.now.image.now self.new }
+        ensures said { CellAnswers result
+            (λ n kept. looked_in here.now.image.now here.now.cpu cell n kept look.now)
+            (λ e. Took here.now.image.now self.old e self.new)
+            (λ e. Shut here.now.image.now self.old e self.new)
+            (Kept self.old self.new) (Contended here.now.image.now self.old (site_in cell) self.new)
+            (λ kept e found. found ≡ not (is_void e.act)) };
+
+    /// Lets the timer of a row, at this address, run out by a mark with this deadline, on behalf of a thread. Returns whether it does, and writes
+    /// who is woken.
+    fn expire(
+        &mut self,
+        here: &Here,
+        row: Row,
+        thread: ThreadIx,
+        addr: Addr,
+        deadline: u64,
+        woken: &mut Woken,
+    ) -> Said<bool>
+        requires image { IsOf here.now.image.now self.old }
+        requires row { row.0 < ROWS }
+        requires goes { CanAskCell (May here.now.image.now self.old)
+            (λ n o. expired_made here.now.image.now here.now.cpu row.0 n o thread addr deadline) }
+        ensures image { IsOf here.now.image.now self.new }
+        ensures said { CellWrites result
+            (λ n o. expired_made here.now.image.now here.now.cpu row.0 n o thread addr deadline)
+            (λ e. Took here.now.image.now self.old e self.new)
+            (λ e. Shut here.now.image.now self.old e self.new)
+            (Kept self.old self.new) (Contended here.now.image.now self.old (Site.object row.0) self.new)
+            (λ e found. (found ≡ not (is_void e.act)) × (woken.new ≡ told_all (woken_in (act_in e.act))))
+            (woken.new ≡ woken.old) };
+
+    /// Waits on a futex. Returns the answer.
+    fn futex_wait(&mut self, here: &Here, act: &FutexWait) -> Said<Answer>
+        requires image { IsOf here.now.image.now self.old }
+        requires thread { act.now.seeker.thread.0 < THREADS }
+        requires goes { CanAskCell (May here.now.image.now self.old)
+            (λ n m. waited_made here.now.image.now here.now.cpu n m act.now) }
+        ensures image { IsOf here.now.image.now self.new }
+        ensures said { CellAnswers result
+            (λ n m. waited_made here.now.image.now here.now.cpu n m act.now)
+            (λ e. Took here.now.image.now self.old e self.new)
+            (λ e. Shut here.now.image.now self.old e self.new)
+            (Kept self.old self.new) (Contended here.now.image.now self.old (Site.memory) self.new)
+            (λ m e answer. answer ≡ answer_in (act_in e.act)) };
+
+    /// Wakes those who wait on a futex. Returns the answer, and writes who is woken.
+    fn futex_wake(&mut self, here: &Here, act: &FutexWake, woken: &mut Woken) -> Said<Answer>
+        requires image { IsOf here.now.image.now self.old }
+        requires goes { CanAskCell (May here.now.image.now self.old)
+            (λ n m. futex_made here.now.image.now here.now.cpu n m act.now) }
+        ensures image { IsOf here.now.image.now self.new }
+        ensures said { CellWrites result
+            (λ n m. futex_made here.now.image.now here.now.cpu n m act.now)
+            (λ e. Took here.now.image.now self.old e self.new)
+            (λ e. Shut here.now.image.now self.old e self.new)
+            (Kept self.old self.new) (Contended here.now.image.now self.old (Site.memory) self.new)
+            (λ e answer. (answer ≡ answer_in (act_in e.act)) × (woken.new ≡ told_all (woken_in (act_in e.act))))
+            (woken.new ≡ woken.old) };
+
+    /// Arms a deadline so many ticks from now, for a mark. Returns the deadline.
+    fn arm(&mut self, here: &Here, thread: ThreadIx, ticks: u32, mark: Mark) -> Said<u64>
+        requires image { IsOf here.now.image.now self.old }
+        requires goes { CanAskCell (May here.now.image.now self.old)
+            (λ n c. armed_made here.now.image.now here.now.cpu n c thread ticks mark) }
+        ensures image { IsOf here.now.image.now self.new }
+        ensures said { CellAnswers result
+            (λ n c. armed_made here.now.image.now here.now.cpu n c thread ticks mark)
+            (λ e. Took here.now.image.now self.old e self.new)
+            (λ e. Shut here.now.image.now self.old e self.new)
+            (Kept self.old self.new) (Contended here.now.image.now self.old (Site.clock) self.new)
+            (λ c e deadline. deadline ≡ deadline_in (act_in e.act)) };
+
+    /// Settles the mark with this deadline.
+    fn settle(&mut self, here: &Here, deadline: u64, mark: Mark) -> Said<()>
+        requires image { IsOf here.now.image.now self.old }
+        requires goes { CanAskCell (May here.now.image.now self.old)
+            (λ n c. settled_made here.now.image.now here.now.cpu n c deadline mark) }
+        ensures image { IsOf here.now.image.now self.new }
+        ensures said { CellTakes result
+            (λ n c. settled_made here.now.image.now here.now.cpu n c deadline mark)
+            (λ e. Took here.now.image.now self.old e self.new)
+            (λ e. Shut here.now.image.now self.old e self.new)
+            (Kept self.old self.new) (Contended here.now.image.now self.old (Site.clock) self.new) };
+
+    /// Gives the first mark that is due. Returns its deadline and what it is for.
+    fn give(&mut self, here: &Here) -> Said<(u64, Mark)>
+        requires image { IsOf here.now.image.now self.old }
+        requires goes { CanAskCell (May here.now.image.now self.old)
+            (λ n c. given_made here.now.image.now here.now.cpu n c) }
+        ensures image { IsOf here.now.image.now self.new }
+        ensures said { CellAnswers result
+            (λ n c. given_made here.now.image.now here.now.cpu n c)
+            (λ e. Took here.now.image.now self.old e self.new)
+            (λ e. Shut here.now.image.now self.old e self.new)
+            (Kept self.old self.new) (Contended here.now.image.now self.old (Site.clock) self.new)
+            (λ c e given. e.moved ≡ Exchange.mark given.0 given.1) };
+
+    /// Lets time go on to the next deadline, on behalf of a thread.
+    fn tick(&mut self, here: &Here, thread: ThreadIx) -> Said<()>
+        requires image { IsOf here.now.image.now self.old }
+        requires goes { CanAskCell (May here.now.image.now self.old)
+            (λ n c. ticked_made here.now.image.now here.now.cpu n c thread) }
+        ensures image { IsOf here.now.image.now self.new }
+        ensures said { CellTakes result
+            (λ n c. ticked_made here.now.image.now here.now.cpu n c thread)
+            (λ e. Took here.now.image.now self.old e self.new)
+            (λ e. Shut here.now.image.now self.old e self.new)
+            (Kept self.old self.new) (Contended here.now.image.now self.old (Site.clock) self.new) };
+
+    /// Asks for the end of a thread. Returns the answer.
+    fn join(
+        &mut self,
+        here: &Here,
+        seeker: &Seeker,
+        who: ThreadIx,
+        timeout: Timeout,
+    ) -> Said<Answer>
+        requires image { IsOf here.now.image.now self.old }
+        requires thread { seeker.now.thread.0 < THREADS }
+        requires goes { CanAskCell (May here.now.image.now self.old)
+            (λ n j. joined_made here.now.image.now here.now.cpu n j seeker.now who timeout) }
+        ensures image { IsOf here.now.image.now self.new }
+        ensures said { CellAnswers result
+            (λ n j. joined_made here.now.image.now here.now.cpu n j seeker.now who timeout)
+            (λ e. Took here.now.image.now self.old e self.new)
+            (λ e. Shut here.now.image.now self.old e self.new)
+            (Kept self.old self.new) (Contended here.now.image.now self.old (Site.joins) self.new)
+            (λ j e answer. answer ≡ answer_in (act_in e.act)) };
+
+    /// The end of a thread comes, and nobody joins it any more. Returns whether somebody waited for it, and writes who is woken.
+    fn leave(&mut self, here: &Here, who: ThreadIx, woken: &mut Woken) -> Said<bool>
+        requires image { IsOf here.now.image.now self.old }
+        requires goes { CanAskCell (May here.now.image.now self.old)
+            (λ n j. left_made here.now.image.now here.now.cpu n j who) }
+        ensures image { IsOf here.now.image.now self.new }
+        ensures said { CellWrites result
+            (λ n j. left_made here.now.image.now here.now.cpu n j who)
+            (λ e. Took here.now.image.now self.old e self.new)
+            (λ e. Shut here.now.image.now self.old e self.new)
+            (Kept self.old self.new) (Contended here.now.image.now self.old (Site.joins) self.new)
+            (λ e joined. (joined ≡ not (is_shut_act e.act)) × (woken.new ≡ told_all (woken_in (act_in e.act))))
+            (woken.new ≡ woken.old) };
+
+    /// A thread that is started next may be joined.
+    fn unshut(&mut self, here: &Here, who: ThreadIx) -> Said<()>
+        requires image { IsOf here.now.image.now self.old }
+        requires goes { CanAskCell (May here.now.image.now self.old)
+            (λ n j. unshut_made here.now.image.now here.now.cpu n j who) }
+        ensures image { IsOf here.now.image.now self.new }
+        ensures said { CellTakes result
+            (λ n j. unshut_made here.now.image.now here.now.cpu n j who)
+            (λ e. Took here.now.image.now self.old e self.new)
+            (λ e. Shut here.now.image.now self.old e self.new)
+            (Kept self.old self.new) (Contended here.now.image.now self.old (Site.joins) self.new) };
+
+    /// A suspended thread goes to sleep. Gives back the room that was there. No contract says what is in that room.
+    fn sleep(&mut self, here: &Here, context: &mut Box<Context>) -> Said<()>
+        requires image { IsOf here.now.image.now self.old }
+        requires goes { CanAskCell (May here.now.image.now self.old)
+            (λ n j. slept_made here.now.image.now here.now.cpu n j context.old.value) }
+        ensures image { IsOf here.now.image.now self.new }
+        ensures said { CellKeeps result
+            (λ n j. slept_made here.now.image.now here.now.cpu n j context.old.value)
+            (λ e. Took here.now.image.now self.old e self.new)
+            (λ e. Shut here.now.image.now self.old e self.new)
+            (Kept self.old self.new) (Contended here.now.image.now self.old (Site.joins) self.new)
+            (context.new ≡ context.old) };
+
+    /// Takes a thread that sleeps, and leaves the given room in its stead. Returns whether it sleeps.
+    fn rouse(&mut self, here: &Here, who: ThreadIx, context: &mut Box<Context>) -> Said<bool>
+        requires image { IsOf here.now.image.now self.old }
+        requires thread { who.0 < THREADS }
+        requires goes { CanAskCell (May here.now.image.now self.old)
+            (λ n j. roused_made here.now.image.now here.now.cpu n j who) }
+        ensures image { IsOf here.now.image.now self.new }
+        ensures said { CellWrites result
+            (λ n j. roused_made here.now.image.now here.now.cpu n j who)
+            (λ e. Took here.now.image.now self.old e self.new)
+            (λ e. Shut here.now.image.now self.old e self.new)
+            (Kept self.old self.new) (Contended here.now.image.now self.old (Site.joins) self.new)
+            (λ e found. (found ≡ not (is_void e.act)) × RousedIs found context.new.value e.moved)
+            (context.new ≡ context.old) };
 }

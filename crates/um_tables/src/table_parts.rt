@@ -1,14 +1,16 @@
 //! What tables keep, each part by itself.
 
 use crate::bytes::Bytes;
+use crate::clock::Clock;
 use crate::domain_cell::DomainCell;
 use crate::heap::Heap;
+use crate::joins::Joins;
 use crate::object_cells::ObjectCells;
 use crate::scheduler::Scheduler;
 use um_words::{DomWord, RowWord, ThreadWord};
 
 /// The words of all rows, thread indices and domains, the cells of domains and of objects, each by its number, and the contents of the
-/// memory, the heap and the scheduler. The step counts of these three aren't in it.
+/// memory, the heap, the scheduler, the clock and the joins. The step counts of these five aren't in it.
 #[derive(Drop)]
 pub struct TableParts {
     pub rows: Vec<RowWord>,
@@ -19,4 +21,6 @@ pub struct TableParts {
     pub memory: Bytes,
     pub heap: Heap,
     pub scheduler: Scheduler,
+    pub clock: Clock,
+    pub joins: Joins,
 }

@@ -1,7 +1,10 @@
 //! Sites as tables, at which one call at a time makes a step.
 
+mod looks;
+mod steps;
+
 ghost use Rattle.std.specs.{
-  Prelude.{◌≡◌, ◌<◌, MatchOption, None, Some, length, slice_index_or, vec_capacity},
+  Prelude.{◌≡◌, ◌<◌, ◌≤◌, [], MatchOption, None, Some, length, slice_index_or, vec_capacity},
   List.{All},
 };
 ghost use Rattle.um_base.specs.declared.limits.TheConstants.{DOMAINS, ROWS, THREADS};
@@ -9,30 +12,24 @@ ghost use Rattle.um_fine.specs.Answers.{no_row, no_thread};
 ghost use Rattle.um_tables.specs.{ObjectCells.{cleared}, Sited.{in_domains, no_domain_cell}};
 
 use crate::bytes::Bytes;
-use crate::context::Context;
-use crate::domain_cell::{DomainCell, edited, load};
+use crate::clock::Clock;
+use crate::domain_cell::DomainCell;
 use crate::heap::Heap;
-use crate::heap_act::{HeapAct, HeapSaid};
-use crate::here::Here;
-use crate::log::{is_full, named, note, resumed, worked};
-use crate::memory_act::{MemoryAct, MemorySaid};
+use crate::joins::Joins;
 use crate::object_cell::ObjectCell;
 use crate::object_cells::ObjectCells;
-use crate::said::Said;
 use crate::scheduler::Scheduler;
-use crate::sites::Sites;
 use crate::table_parts::TableParts;
 use std::marker::Model;
-use um_base::{Addr, Event, Image, Parts, Piece, Reply, Row, ThreadIx, Told, Waiter};
-use um_machine::{Cost, Pending};
-use um_service::Outcome;
-use um_words::{DomWord, DomainAct, RowAct, RowSaid, RowWord, ThreadAct, ThreadWord};
+use um_base::{Event, Parts};
+use um_words::{DomWord, RowWord, ThreadWord};
 
 /// The greatest step number. A cell that has reached it takes no step.
 const LAST: u32 = 0xfff_ffff;
 
-/// The words of all rows, thread indices and domains; the cells of domains and of objects, and those of memory, the heap and the scheduler;
-/// and the events of all steps in their order. If there is no room for one more event, no step is made that may show one.
+/// The words of all rows, thread indices and domains; the cells of domains and of objects, and those of memory, the heap, the scheduler, the
+/// clock and the joins; and the events of all steps in their order. If there is no room for one more event, no step is made that may show
+/// one. The clock has room for as many marks as the log has for events.
 #[derive(Drop)]
 pub struct Tables {
     rows: Vec<RowWord>,
@@ -51,11 +48,17 @@ pub struct Tables {
     scheduler: Scheduler,
     /// How many steps the scheduler's cell has taken, below 2^28.
     scheduler_steps: u32,
+    clock: Clock,
+    /// How many steps the clock's cell has taken, below 2^28.
+    clock_steps: u32,
+    joins: Joins,
+    /// How many steps the joins' cell has taken, below 2^28.
+    joins_steps: u32,
     log: Vec<Event>,
 }
 
 impl Model for Tables {
-    ghost use Rattle.std.specs.{Prelude.{◌≡◌, ◌<◌, length, vec_capacity}, List.{All}};
+    ghost use Rattle.std.specs.{Prelude.{◌≡◌, ◌<◌, ◌≤◌, length, vec_capacity}, List.{All}};
     ghost use Rattle.um_base.specs.declared.limits.TheConstants.{DOMAINS, ROWS, THREADS};
     ghost use Rattle.um_tables.specs.Sited.{Sited, in_domains};
 
@@ -74,17 +77,24 @@ impl Model for Tables {
       heap_steps = t.heap_steps;
       scheduler = t.scheduler;
       scheduler_steps = t.scheduler_steps;
+      clock = t.clock.clock;
+      clock_steps = t.clock_steps;
+      joins = t.joins;
+      joins_steps = t.joins_steps;
       log = t.log.items;
       most = vec_capacity t.log;
     } };
 
     ghost invariant = { λ t. (length t.rows.items ≡ ROWS) × (length t.threads.items ≡ THREADS)
         × (length t.domains.items ≡ DOMAINS) × (length t.domain_cells.items ≡ DOMAINS)
-        × (length t.objects ≡ ROWS) × All in_domains t.threads.items };
+        × (length t.objects ≡ ROWS) × All in_domains t.threads.items
+        × (length t.clock.clock.marks ≤ length t.log.items) × (vec_capacity t.log ≤ t.clock.most)
+        × (length t.clock.clock.marks ≤ t.clock_steps) };
 }
 
 impl Tables {
-    /// Makes tables from these words and cells, with this log. The cells of memory, the heap and the scheduler have taken no step.
+    /// Makes tables from these words and cells, with this log. The cells of memory, the heap, the scheduler, the clock and the joins have taken
+    /// no step, and nothing is armed.
     pub fn new(
         rows: Vec<RowWord>,
         threads: Vec<ThreadWord>,
@@ -95,6 +105,8 @@ impl Tables {
         memory: Bytes,
         heap: Heap,
         scheduler: Scheduler,
+        clock: Clock,
+        joins: Joins,
         log: Vec<Event>,
     ) -> Tables
         requires rows { length rows.items ≡ ROWS }
@@ -103,6 +115,8 @@ impl Tables {
         requires cells { length domain_cells.items ≡ DOMAINS }
         requires objects { length objects ≡ ROWS }
         requires named { All in_domains threads.items }
+        requires armed { clock.clock.marks ≡ [] }
+        requires room { vec_capacity log ≤ clock.most }
         ensures { result ≡ record {
           rows = rows.items;
           threads = threads.items;
@@ -116,6 +130,10 @@ impl Tables {
           heap_steps = 0;
           scheduler = scheduler;
           scheduler_steps = 0;
+          clock = clock.clock;
+          clock_steps = 0;
+          joins = joins;
+          joins_steps = 0;
           log = log.items;
           most = vec_capacity log;
         } }
@@ -133,6 +151,10 @@ impl Tables {
             heap_steps: 0,
             scheduler,
             scheduler_steps: 0,
+            clock,
+            clock_steps: 0,
+            joins,
+            joins_steps: 0,
             log,
         }
     }
@@ -199,6 +221,20 @@ impl Tables {
         &self.scheduler
     }
 
+    /// The contents of the clock's cell.
+    pub fn clock_cell(&self) -> &Clock
+        ensures { result.now.clock ≡ self.now.clock }
+    {
+        &self.clock
+    }
+
+    /// The contents of the joins' cell.
+    pub fn joins_cell(&self) -> &Joins
+        ensures { result.now ≡ self.now.joins }
+    {
+        &self.joins
+    }
+
     /// The events of all steps, in their order.
     pub fn events(&self) -> &[Event]
         ensures { result.now ≡ self.now.log }
@@ -223,6 +259,8 @@ impl Tables {
         ensures memory { result.memory ≡ self.memory }
         ensures heap { result.heap ≡ self.heap }
         ensures scheduler { result.scheduler ≡ self.scheduler }
+        ensures clock { result.clock.clock ≡ self.clock }
+        ensures joins { result.joins ≡ self.joins }
     {
         TableParts {
             rows: self.rows,
@@ -233,240 +271,8 @@ impl Tables {
             memory: self.memory,
             heap: self.heap,
             scheduler: self.scheduler,
+            clock: self.clock,
+            joins: self.joins,
         }
-    }
-}
-
-impl Sites for Tables {
-    ghost use Rattle.std.specs.Prelude.{◌≡◌};
-    ghost use Rattle.um_base.specs.declared.image.Image.{Image};
-    ghost use Rattle.um_machine.specs.Memory.{rodata_of};
-    ghost use Rattle.um_tables.specs.Sited.{IsFull, IsShut, WasMade, state_at};
-
-    ghost IsOf = { λ image s. s.rodata ≡ rodata_of image };
-
-    ghost Took = { WasMade };
-
-    ghost Kept = { λ old new. new ≡ old };
-
-    ghost May = { λ image s e. Unit {0} };
-
-    ghost Shut = { λ image old e new. IsShut image (state_at old e.site) e };
-
-    ghost Contended = { λ image old site new. IsFull old };
-
-    #[inline(always)]
-    fn row(&mut self, here: &Here, row: Row, act: &RowAct) -> Said<RowSaid> {
-        if is_full(&self.log) {
-            return Said::Changed;
-        }
-        let (next, said) = match act.make(&self.rows[row.0 as usize]) {
-            None => return Said::Busy,
-            Some(made) => made,
-        };
-        self.rows[row.0 as usize] = next;
-        note(&mut self.log, act.event(&said));
-        Said::Made(said)
-    }
-
-    #[inline(always)]
-    fn thread(&mut self, here: &Here, thread: ThreadIx, act: &ThreadAct) -> Said<ThreadWord> {
-        if is_full(&self.log) {
-            return Said::Changed;
-        }
-        let next = match act.make(&self.threads[thread.0 as usize]) {
-            None => return Said::Busy,
-            Some(next) => next,
-        };
-        self.threads[thread.0 as usize] = next;
-        note(&mut self.log, act.event(&next));
-        Said::Made(next)
-    }
-
-    #[inline(always)]
-    fn domain(&mut self, here: &Here, domain: u8, act: &DomainAct) -> Said<DomWord> {
-        if is_full(&self.log) {
-            return Said::Changed;
-        }
-        let next = match act.make(&self.domains[domain as usize]) {
-            None => return Said::Busy,
-            Some(next) => next,
-        };
-        self.domains[domain as usize] = next;
-        note(&mut self.log, act.event());
-        Said::Made(next)
-    }
-
-    fn load_parts(&mut self, here: &Here, domain: u8, parts: &mut Parts) -> Said<()> {
-        let cell = &mut self.domain_cells[domain as usize];
-        if cell.steps >= LAST {
-            return Said::Busy;
-        }
-        load(parts, &cell.parts);
-        cell.steps += 1;
-        Said::Made(())
-    }
-
-    fn edit(&mut self, here: &Here, domain: u8, call: &Pending) -> Said<Reply> {
-        let cell = &mut self.domain_cells[domain as usize];
-        if cell.steps >= LAST {
-            return Said::Busy;
-        }
-        let (parts, reply) = edited(here.image, call, &cell.parts);
-        cell.parts = parts;
-        cell.steps += 1;
-        Said::Made(reply)
-    }
-
-    fn work(
-        &mut self,
-        here: &Here,
-        row: Row,
-        addr: Addr,
-        who: &Waiter,
-        outcome: &mut Outcome,
-    ) -> Said<()> {
-        if is_full(&self.log) {
-            return Said::Changed;
-        }
-        let cell = self.objects.row_mut(row.0 as usize);
-        if cell.steps >= LAST {
-            return Said::Busy;
-        }
-        cell.work(who, outcome);
-        cell.steps += 1;
-        note(&mut self.log, Some(worked(addr, who, outcome)));
-        Said::Made(())
-    }
-
-    fn name(
-        &mut self,
-        here: &Here,
-        row: Row,
-        thread: ThreadIx,
-        who: ThreadIx,
-        bytes: &Piece,
-    ) -> Said<()> {
-        if is_full(&self.log) {
-            return Said::Changed;
-        }
-        let cell = self.objects.row_mut(row.0 as usize);
-        if cell.steps >= LAST {
-            return Said::Busy;
-        }
-        cell.name(bytes);
-        cell.steps += 1;
-        note(&mut self.log, Some(named(thread, who)));
-        Said::Made(())
-    }
-
-    fn message_size(&mut self, here: &Here, row: Row) -> Said<u32> {
-        let cell = self.objects.row_mut(row.0 as usize);
-        if cell.steps >= LAST {
-            return Said::Busy;
-        }
-        let size = cell.message_size();
-        cell.steps += 1;
-        Said::Made(size)
-    }
-
-    fn clear(&mut self, here: &Here, row: Row) -> Said<Option<Cost>> {
-        let cell = self.objects.row_mut(row.0 as usize);
-        if cell.steps >= LAST {
-            return Said::Busy;
-        }
-        let buffer = cell.clear();
-        cell.steps += 1;
-        Said::Made(buffer)
-    }
-
-    fn memory(&mut self, here: &Here, act: &MemoryAct, buffer: &mut Piece) -> Said<MemorySaid> {
-        if is_full(&self.log) {
-            return Said::Changed;
-        }
-        if self.memory_steps >= LAST {
-            return Said::Busy;
-        }
-        let said = self
-            .memory
-            .make(here.image, self.rodata.as_slice(), act, buffer);
-        self.memory_steps += 1;
-        note(&mut self.log, act.event(&said));
-        Said::Made(said)
-    }
-
-    fn heap(&mut self, here: &Here, act: &HeapAct, charge: Option<Cost>) -> Said<HeapSaid> {
-        if is_full(&self.log) {
-            return Said::Changed;
-        }
-        if self.heap_steps >= LAST {
-            return Said::Busy;
-        }
-        let said = self.heap.make(here.image, act, charge);
-        self.heap_steps += 1;
-        note(&mut self.log, act.event(&said));
-        Said::Made(said)
-    }
-
-    fn take(&mut self, here: &Here, context: &mut Box<Context>, told: &mut Told) -> Said<bool> {
-        if is_full(&self.log) {
-            return Said::Changed;
-        }
-        if self.scheduler_steps >= LAST {
-            return Said::Busy;
-        }
-        let woken = match self.scheduler.take(context, told) {
-            None => return Said::Busy,
-            Some(woken) => woken,
-        };
-        self.scheduler_steps += 1;
-        note(&mut self.log, resumed(context.thread(), woken));
-        Said::Made(woken)
-    }
-
-    fn wake(&mut self, here: &Here, who: ThreadIx, told: &Told) -> Said<()> {
-        if self.scheduler_steps >= LAST {
-            return Said::Busy;
-        }
-        let _ready = match self.scheduler.wake(who, told) {
-            None => return Said::Busy,
-            Some(ready) => ready,
-        };
-        self.scheduler_steps += 1;
-        Said::Made(())
-    }
-
-    fn add(&mut self, here: &Here, context: &mut Box<Context>) -> Said<()> {
-        if self.scheduler_steps >= LAST {
-            return Said::Busy;
-        }
-        if !self.scheduler.add(context) {
-            return Said::Busy;
-        }
-        self.scheduler_steps += 1;
-        Said::Made(())
-    }
-
-    fn park(&mut self, here: &Here, context: &mut Box<Context>) -> Said<()> {
-        if self.scheduler_steps >= LAST {
-            return Said::Busy;
-        }
-        let _ready = match self.scheduler.park(context) {
-            None => return Said::Busy,
-            Some(ready) => ready,
-        };
-        self.scheduler_steps += 1;
-        Said::Made(())
-    }
-
-    fn done(&mut self, here: &Here) -> Said<()> {
-        if self.scheduler_steps >= LAST {
-            return Said::Busy;
-        }
-        if !self.scheduler.done() {
-            return Said::Busy;
-        }
-        self.scheduler_steps += 1;
-        Said::Made(())
     }
 }

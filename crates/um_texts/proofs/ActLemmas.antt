@@ -18,10 +18,10 @@ use Rattle.um_base.specs.declared.names.Reply.{Reply}
 use Rattle.um_base.specs.declared.names.ThreadIx.{ThreadIx}
 use Rattle.um_base.specs.declared.names.Want.{Want}
 use Rattle.um_trace.specs.Digits.{address, value}
-use Rattle.um_trace.specs.Words.{verdict_word, any_kind_word, reach_word, pool_word, given_word, leftover_word, set_word, cause_word}
+use Rattle.um_trace.specs.Words.{verdict_word, any_kind_word, reach_word, pool_word, given_word, done_word, leftover_word, set_word, cause_word}
 use Rattle.um_vocabulary.specs.Words.{kind_word, want_word, access_word}
 use Rattle.um_trace.specs.Names.{row_text, thread_text, object_text, domain_text, script_text, part_text, reply_text}
-use Rattle.um_trace.specs.Acts.{range_text, found_text, answer_text, wake_text, reserved_text, thread_act_text, domain_act_text, pair_act_text, heap_act_text, object_act_text, act_text}
+use Rattle.um_trace.specs.Acts.{range_text, found_text, answer_text, wake_text, reserved_text, stop_act_text, time_act_text, thread_act_text, domain_act_text, pair_act_text, heap_act_text, object_act_text, wake_act_text, act_text}
 use Rattle.um_texts.proofs.PlainLemmas.{solid, plain, plain_append, plain_solid, plain_flat, decimal_solid, address_solid, value_solid}
 use Rattle.um_texts.proofs.NameLemmas.{AreNamed, row_solid, thread_solid, object_solid, domain_solid, script_solid, errno_solid, part_solid, reply_solid}
 
@@ -64,6 +64,11 @@ given_solid : (given : Given) → solid (given_word given) ≡ true
 unfolding given_word
 given_solid Given.Done = refl
 given_solid Given.Gone = refl
+
+done_solid : (done : Bool) → solid (done_word done) ≡ true
+unfolding done_word
+done_solid true = refl
+done_solid false = refl
 
 leftover_solid : (left : Leftover) → solid (leftover_word left) ≡ true
 unfolding leftover_word
@@ -130,8 +135,16 @@ four w xs ys zs us g h k l m = more (w ++ xs ++ codes " " ++ ys ++ codes " " ++ 
 ranged : (w : List ℕ) (a n : ℕ) (xs : List ℕ) → plain w ≡ true → solid xs ≡ true → plain (w ++ range_text a n ++ codes " " ++ xs) ≡ true
 ranged w a n xs g h = more (w ++ range_text a n) xs (plain_append w (range_text a n) g (range_plain a n)) h
 
+-- a part, and those whom it wakes
+waking : (image : Image) → AreNamed image → (front : List ℕ) (woken : List (ThreadIx × Reply)) → plain front ≡ true → plain (front ++ flat_map (wake_text image) woken) ≡ true
+waking image named front woken h = plain_append front (flat_map (wake_text image) woken) h (plain_flat (wake_text image) (wake_plain image named) woken)
+
+-- what is done to a thread
+done_plain : (image : Image) → AreNamed image → (w : List ℕ) (who : ThreadIx) (done : Bool) → plain w ≡ true → plain (w ++ thread_text image who.0 ++ codes " " ++ done_word done) ≡ true
+done_plain image named w who done h = two w (thread_text image who.0) (done_word done) h (thread_solid image named who.0) (done_solid done)
+
 pub act_plain : (image : Image) → AreNamed image → (act : Act) → plain (act_text image act) ≡ true
-unfolding act_text object_act_text heap_act_text pair_act_text domain_act_text thread_act_text
+unfolding act_text wake_act_text object_act_text heap_act_text pair_act_text domain_act_text thread_act_text time_act_text stop_act_text
 act_plain image named (Act.Begin script line) = two (codes "begin ") (script_text image script) (decimal line) refl (script_solid image named script) (decimal_solid line)
 act_plain image named (Act.Check addr kind want verdict) =
     four (codes "check ") (object_text image addr.0) (any_kind_word kind) (want_word want) (verdict_word verdict) refl (object_solid image named addr.0) (any_kind_solid kind) (want_solid want)
@@ -149,9 +162,8 @@ act_plain image named (Act.CopyOut addr size fits) = ranged (codes "copyout ") a
 act_plain image named (Act.CopyStr addr found) = two (codes "copystr ") (address addr.0) (found_text found) refl (address_solid addr.0) (found_solid found)
 act_plain image named (Act.Erase stack) = start (codes "erase ") (row_text image stack.0) refl (row_solid image named stack.0)
 act_plain image named (Act.Work addr answer woken) =
-    plain_append (codes "act " ++ object_text image addr.0 ++ codes " " ++ answer_text image answer) (flat_map (wake_text image) woken)
+    waking image named (codes "act " ++ object_text image addr.0 ++ codes " " ++ answer_text image answer) woken
     (two (codes "act ") (object_text image addr.0) (answer_text image answer) refl (object_solid image named addr.0) (answer_solid image named answer))
-    (plain_flat (wake_text image) (wake_plain image named) woken)
 act_plain image named Act.Resume = refl
 act_plain image named (Act.Answered reply) = start (codes "reply ") (reply_text image reply) refl (reply_solid image named reply)
 act_plain image named (Act.Grant who addr given) =
@@ -184,4 +196,22 @@ act_plain image named Act.EnterUser = refl
 act_plain image named (Act.Fatal reason cause) = two (codes "fatal ") (decimal reason) (cause_word cause) refl (decimal_solid reason) (cause_solid cause)
 act_plain image named (Act.Doom who) = start (codes "doom ") (decimal who.0) refl (decimal_solid who.0)
 act_plain image named Act.Exit = refl
+act_plain image named (Act.Arm deadline) = start (codes "arm ") (decimal deadline) refl (decimal_solid deadline)
+act_plain image named (Act.Tick now) = start (codes "tick ") (decimal now) refl (decimal_solid now)
+act_plain image named (Act.TimedOut who) = start (codes "timeout ") (thread_text image who.0) refl (thread_solid image named who.0)
+act_plain image named (Act.Expire addr woken) =
+    waking image named (codes "expire " ++ object_text image addr.0) woken (start (codes "expire ") (object_text image addr.0) refl (object_solid image named addr.0))
+act_plain image named (Act.Abort who done) = done_plain image named (codes "abort ") who done refl
+act_plain image named (Act.Suspend who done) = done_plain image named (codes "suspend ") who done refl
+act_plain image named (Act.Continue who done) = done_plain image named (codes "continue ") who done refl
+act_plain image named (Act.Cut who) = start (codes "cut ") (thread_text image who.0) refl (thread_solid image named who.0)
+act_plain image named Act.Killed = refl
+act_plain image named (Act.Join who answer) = two (codes "join ") (thread_text image who.0) (answer_text image answer) refl (thread_solid image named who.0) (answer_solid image named answer)
+act_plain image named (Act.Left who woken) =
+    waking image named (codes "left " ++ thread_text image who.0) woken (start (codes "left ") (thread_text image who.0) refl (thread_solid image named who.0))
+act_plain image named (Act.FutexWait addr number answer) =
+    three (codes "futex wait ") (address addr.0) (value number) (answer_text image answer) refl (address_solid addr.0) (value_solid number) (answer_solid image named answer)
+act_plain image named (Act.FutexWake addr answer woken) =
+    waking image named (codes "futex wake " ++ address addr.0 ++ codes " " ++ answer_text image answer) woken
+    (two (codes "futex wake ") (address addr.0) (answer_text image answer) refl (address_solid addr.0) (answer_solid image named answer))
 act_plain image named (Act.Recycle addr) = start (codes "recycle ") (object_text image addr.0) refl (object_solid image named addr.0)

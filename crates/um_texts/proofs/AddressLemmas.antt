@@ -71,6 +71,7 @@ stack_or_other Setup.Mutex x ranges = inr (refl, refl)
 stack_or_other (Setup.Msgq size most) x ranges = inr (refl, refl)
 stack_or_other (Setup.Stack entries) x ranges = inr (refl, refl)
 stack_or_other (Setup.Pipe size) x ranges = inr (refl, refl)
+stack_or_other Setup.Timer x ranges = inr (refl, refl)
 
 abbrev pub addrs : List ObjectDef → List ℕ
 addrs os = map (λ (o : ObjectDef). o.addr.0) os
@@ -167,6 +168,7 @@ some_with mpu kind Setup.Mutex ranges h all = all
 some_with mpu kind (Setup.Msgq size most) ranges h all = all
 some_with mpu kind (Setup.Stack entries) ranges h all = all
 some_with mpu kind (Setup.Pipe size) ranges h all = all
+some_with mpu kind Setup.Timer ranges h all = all
 
 stacks_some : (mpu : Mpu) (os : List ObjectDef) → list_all (λ (o : ObjectDef). is_setup_of mpu o.kind o.setup) os ≡ true → AreSome (stack_ranges os)
 stacks_some mpu [] h = λ k inside. absurd (omega arith)

@@ -1,28 +1,34 @@
 -- The core of the state after a step depends on the core of the state before it alone: states with one core have the same writes and go on in the same way.
-use Rattle.std.proofs.Common.{◌≡◌, ℕ, List, [], ◌∷◌, refl, ap, ◌∙◌, Option, Some, None, is_some, slice_set, take}
+use Rattle.std.proofs.Common.{◌≡◌, ℕ, List, [], ◌∷◌, ◌++◌, refl, ap, ◌∙◌, Option, Some, None, is_some, slice_set, take}
 use Rattle.um_base.specs.declared.act.Act.{Act}
 use Rattle.um_base.specs.declared.act.Found.{Found}
 use Rattle.um_base.specs.declared.image.Image.{Image}
 use Rattle.um_base.specs.declared.instr.Instr.{Instr}
-use Rattle.um_base.specs.declared.limits.TheConstants.{PIECE}
+use Rattle.um_base.specs.declared.ask.Ask.{Ask}
+use Rattle.um_base.specs.declared.ask.Told.{Told}
+use Rattle.um_base.specs.declared.ask.Waiter.{Waiter}
+use Rattle.um_base.specs.declared.limits.TheConstants.{FUTEX_CELL, JOIN_CELL, PIECE}
+use Rattle.um_base.specs.declared.names.ThreadIx.{ThreadIx}
 use Rattle.um_base.specs.declared.names.Errno.{Errno}
 use Rattle.um_base.specs.Places.{own_row}
 use Rattle.um_base.specs.Regions.{Partitions}
+use Rattle.um_machine.specs.declared.contents.Contents.{Contents}
 use Rattle.um_machine.specs.declared.object.Object.{Object}
 use Rattle.um_machine.specs.declared.pending.Pending.{Pending}
 use Rattle.um_machine.specs.declared.thread.Thread.{Thread}
 use Rattle.um_machine.specs.Goes.{Change, Next, at_steps, gone, went, with_begin}
 use Rattle.um_machine.specs.Memory.{bytes_at, string_bytes, string_read}
 use Rattle.um_machine.specs.Order.{Steps, steps_of}
-use Rattle.um_machine.specs.Outcomes.{fits_in, reserved_in}
+use Rattle.um_machine.specs.Outcomes.{answer_in, fits_in, reserved_in}
 use Rattle.um_machine.specs.Readings.{row_of, work_of}
-use Rattle.um_machine.specs.Services.{Acted}
+use Rattle.um_machine.specs.Services.{Acted, in_order, runs_out, still_waiting, without}
 use Rattle.um_machine.specs.State.{State, object_at, thread_at, with_thread}
 use Rattle.um_machine.specs.Table.{act_of, after, came_with, continues, effects}
-use Rattle.um_machine.specs.Writes.{Edit, Effect, Effects, buffer_cost, cost_of, does, edited, effect, newborn, only, paid_back, paid_from, wrote}
+use Rattle.um_machine.specs.Time.{told_late}
+use Rattle.um_machine.specs.Writes.{Edit, Effect, Effects, buffer_cost, cost_of, does, edited, effect, newborn, only, paid_back, paid_from, says_wait, wrote}
 use Rattle.um_machine.proofs.EffectLemmas.{effects_of, next_of}
-use Rattle.um_texts.proofs.CoreLemmas.{core, core_object, core_object_at, core_thread, core_thread_at, core_thread_twice, same_bytes, same_domains, same_doomed, same_if, same_moved, same_paired, same_pools, same_with_thread, same_woken, same_written, same_written_object}
-use Rattle.um_texts.proofs.SaidLemmas.{both, core_act, core_amount, core_string, core_string_bytes, core_work}
+use Rattle.um_texts.proofs.CoreLemmas.{core, core_object, core_object_at, core_thread, core_thread_at, core_thread_twice, same_armed, same_bytes, same_cut, same_domains, same_doomed, same_flagged, same_if, same_moved, same_now, same_paired, same_pools, same_waiters, same_with_thread, same_woken, same_written, same_written_object}
+use Rattle.um_texts.proofs.SaidLemmas.{both, core_act, core_amount, core_queued, core_roused, core_string, core_string_bytes, core_waiting, core_work}
 
 -- The writes.
 
@@ -34,6 +40,11 @@ same_effect : (x : Effect) (s2 s : State) → core s2 ≡ core s → core (effec
 same_effect (Effect.wakes woken) s2 s e = same_woken woken s2 s e
 same_effect (Effect.moves who d) s2 s e = same_moved s2 s e who d
 same_effect (Effect.dooms who) s2 s e = same_doomed s2 s e who
+same_effect (Effect.flags who flag) s2 s e = same_flagged s2 s e who flag
+same_effect (Effect.cuts who) s2 s e = same_cut s2 s e who
+same_effect (Effect.waiters c ws) s2 s e = same_waiters s2 s e c ws
+same_effect (Effect.arms deadline) s2 s e = same_armed s2 s e (λ (ds : List ℕ). ds ++ deadline ∷ [])
+same_effect (Effect.passes now) s2 s e = same_now s2 s e now
 same_effect (Effect.starts who thread) s2 s e = same_with_thread s2 s e who thread thread refl
 same_effect (Effect.pair who x there) s2 s e = same_paired s2 s e who x there
 same_effect (Effect.object x edit) s2 s e = same_written_object s2 s e x (edited edit) (same_edit edit)
@@ -64,6 +75,16 @@ core_effects k t x (Pending.Start who script stack priority mode) act =
     ap (λ (m : Thread). born m (thread_at (core k) who.0)) (core_thread_at k t) ∙ ap (born (thread_at k t)) (core_thread_at k who.0)
 core_effects k t x Pending.Recycle act =
     ap (λ (o : Object). does (Effect.object x Edit.vacates) ∷ does (Effect.returns o.cost) ∷ does (Effect.returns o.buffer) ∷ []) (core_object_at k x)
+core_effects k t x (Pending.Join who timeout) act = ap (λ (ws : List Waiter). only (says_wait (answer_in act)) (Effect.waiters JOIN_CELL ws) ∷ []) (core_queued k t JOIN_CELL (Ask.Join who))
+core_effects k t x (Pending.FutexWait a value timeout) act =
+    ap (λ (ws : List Waiter). only (says_wait (answer_in act)) (Effect.waiters FUTEX_CELL ws) ∷ []) (core_queued k t FUTEX_CELL (Ask.FutexWait a))
+core_effects k t x (Pending.FutexWake a all) act =
+    ap (λ (woken : List (ThreadIx × Told)). does (Effect.waiters FUTEX_CELL (still_waiting woken k.futexes)) ∷ does (Effect.wakes woken) ∷ []) (core_roused k t a.0 all)
+core_effects k t x (Pending.TimeOut who) act = ap (λ (ws : List Waiter). does (Effect.waiters x (without who.0 ws)) ∷ does (Effect.wakes (told_late who x)) ∷ []) (core_waiting k x)
+core_effects k t x Pending.Expire act =
+    let out : Object → Contents × List Waiter × List (ThreadIx × Told) = λ o. runs_out o.waiters (in_order o.waiters) in
+    ap (λ (o : Object). does (Effect.object x (Edit.runs_out (out o).0 (out o).1)) ∷ does (Effect.wakes (out o).2) ∷ []) (core_object_at k x)
+core_effects k t x (Pending.Cut who) act = ap (λ (ws : List Waiter). does (Effect.waiters x (without who.0 ws)) ∷ does (Effect.cuts who.0) ∷ []) (core_waiting k x)
 core_effects k t x p act = refl
 
 same_effects : (s2 s : State) → core s2 ≡ core s → (t x : ℕ) (p : Pending) → effects_of s2 t x p ≡ effects_of s t x p

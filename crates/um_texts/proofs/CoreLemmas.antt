@@ -1,18 +1,20 @@
 -- What of a state the steps of threads depend on: all but who cleans an object, and some of what is left of an instruction.
 use Rattle.std.proofs.Common.{◌≡◌, ℕ, zero, suc, ◌+◌, ◌-◌, Bool, true, false, List, [], ◌∷◌, refl, sym, ap, ◌∙◌, Option, Some, None, if◌then◌else◌, slice_index_or, slice_set, map}
 use Rattle.std.proofs.lemmas.List.{map-set}
+use Rattle.std.specs.Prelude.{◌==◌, ◌||◌}
 use Rattle.um_base.specs.declared.ask.Told.{Told}
+use Rattle.um_base.specs.declared.ask.Waiter.{Waiter}
 use Rattle.um_base.specs.declared.names.Reply.{Reply}
 use Rattle.um_base.specs.declared.names.ThreadIx.{ThreadIx}
 use Rattle.um_machine.specs.declared.object.Object.{Object}
 use Rattle.um_machine.specs.declared.pending.Pending.{Pending}
 use Rattle.um_machine.specs.declared.thread.Thread.{Thread}
-use Rattle.um_machine.specs.State.{State, nobody, vacant, thread_at, object_at, with_thread, with_object}
-use Rattle.um_base.specs.declared.limits.TheConstants.{PARTITION_AREA, STACK_AREA}
+use Rattle.um_machine.specs.State.{State, nobody, vacant, thread_at, object_at, with_thread, with_object, with_waiters}
+use Rattle.um_base.specs.declared.limits.TheConstants.{FUTEX_CELL, JOIN_CELL, PARTITION_AREA, STACK_AREA}
 use Rattle.um_base.specs.Regions.{Partitions}
 use Rattle.um_machine.specs.Memory.{with_bytes, put_bytes}
 use Rattle.um_machine.specs.Order.{Steps}
-use Rattle.um_machine.specs.Writes.{with_due, with_dues, paired, all_woken}
+use Rattle.um_machine.specs.Writes.{Flag, with_due, with_dues, paired, all_woken, cut, flagged}
 
 -- what is left of an instruction, where a drop that is to come counts as done, and the drops of an end are all one
 abbrev pub settled : Steps → Steps
@@ -135,6 +137,28 @@ same_pools s2 s e f = ap (λ (k : State). record k { pools = f k.pools }) e
 pub same_domains : (s2 s : State) → core s2 ≡ core s → (f : List (Option Partitions) → List (Option Partitions)) → core (record s2 { domains = f s2.domains }) ≡ core (record s { domains = f s.domains })
 same_domains s2 s e f = ap (λ (k : State). record k { domains = f k.domains }) e
 
+-- Virtual time, and those who wait in a cell.
+
+pub same_armed : (s2 s : State) → core s2 ≡ core s → (f : List ℕ → List ℕ) → core (record s2 { armed = f s2.armed }) ≡ core (record s { armed = f s.armed })
+same_armed s2 s e f = ap (λ (k : State). record k { armed = f k.armed }) e
+
+pub same_now : (s2 s : State) → core s2 ≡ core s → (now : ℕ) → core (record s2 { now = now }) ≡ core (record s { now = now })
+same_now s2 s e now = ap (λ (k : State). record k { now = now }) e
+
+waiters_by : (s : State) (c : ℕ) (ws : List Waiter) (joins futexes : Bool) → core (record s { objects = if joins || futexes then s.objects else slice_set s.objects c (record (object_at s c) { waiters = ws }); joins = if joins then ws else s.joins; futexes = if futexes then ws else s.futexes })
+    ≡ record (core s) { objects = if joins || futexes then (core s).objects else slice_set (core s).objects c (record (object_at (core s) c) { waiters = ws }); joins = if joins then ws else s.joins; futexes = if futexes then ws else s.futexes }
+waiters_by s c ws true futexes = refl
+waiters_by s c ws false true = refl
+waiters_by s c ws false false =
+    ap (λ (os : List Object). record s { threads = map core_thread s.threads; objects = os })
+    (map-set core_object s.objects c (record (object_at s c) { waiters = ws }) ∙ ap (λ (o : Object). slice_set (map core_object s.objects) c (record o { waiters = ws })) (sym (core_object_at s c)))
+
+core_waiters : (s : State) (c : ℕ) (ws : List Waiter) → core (with_waiters s c ws) ≡ with_waiters (core s) c ws
+core_waiters s c ws = waiters_by s c ws (c == JOIN_CELL) (c == FUTEX_CELL)
+
+pub same_waiters : (s2 s : State) → core s2 ≡ core s → (c : ℕ) (ws : List Waiter) → core (with_waiters s2 c ws) ≡ core (with_waiters s c ws)
+same_waiters s2 s e c ws = core_waiters s2 c ws ∙ ap (λ (k : State). with_waiters k c ws) e ∙ sym (core_waiters s c ws)
+
 -- Other threads.
 
 pub same_moved : (s2 s : State) → core s2 ≡ core s → (who d : ℕ) → core (with_thread s2 who (record (thread_at s2 who) { domain = d })) ≡ core (with_thread s who (record (thread_at s who) { domain = d }))
@@ -148,3 +172,10 @@ same_woken (w ∷ ws) s2 s e =
 
 pub same_doomed : (s2 s : State) → core s2 ≡ core s → (who : ℕ) → core (with_thread s2 who (record (thread_at s2 who) { doomed = true })) ≡ core (with_thread s who (record (thread_at s who) { doomed = true }))
 same_doomed s2 s e who = same_written s2 s e who (λ (m : Thread). record m { doomed = true }) (λ m. ap (λ (steps : Steps). record m { doomed = true; pending = steps }) (settled_twice m.pending))
+
+pub same_flagged : (s2 s : State) → core s2 ≡ core s → (who : ℕ) (flag : Flag) → core (with_thread s2 who (flagged flag (thread_at s2 who))) ≡ core (with_thread s who (flagged flag (thread_at s who)))
+same_flagged s2 s e who Flag.aborted = same_written s2 s e who (flagged Flag.aborted) (λ m. ap (λ (steps : Steps). record m { aborted = true; pending = steps }) (settled_twice m.pending))
+same_flagged s2 s e who (Flag.suspended on) = same_written s2 s e who (flagged (Flag.suspended on)) (λ m. ap (λ (steps : Steps). record m { suspended = on; pending = steps }) (settled_twice m.pending))
+
+pub same_cut : (s2 s : State) → core s2 ≡ core s → (who : ℕ) → core (with_thread s2 who (cut (thread_at s2 who))) ≡ core (with_thread s who (cut (thread_at s who)))
+same_cut s2 s e who = same_written s2 s e who cut (λ m. refl)

@@ -55,7 +55,7 @@ same_dropping s2 s e t x = ap (λ (k : State). core (wrote (drop_writes t x (dro
 pending_drop : (s : State) (t x u : ℕ) → (thread_at (dropping s t x) u).pending ≡ (thread_at s u).pending
 pending_drop s t x u =
     let ws = drop_writes t x (dropped s t x) in
-    key-same of s (wrote ws s) (keys-wrote of all_other (record { due = λ h me due. refl; told = λ h me told. refl; domain = λ h me domain. refl; doomed = λ h me. refl }) ws s refl) u
+    key-same of s (wrote ws s) (keys-wrote of all_other (record { due = λ h me due. refl; told = λ h me told. refl; domain = λ h me domain. refl; doomed = λ h me. refl; flagged = λ h me aborted suspended. refl }) ws s refl) u
   where
     of : Thread → Steps
     of me = me.pending

@@ -20,7 +20,7 @@ use Rattle.um_trace.specs.declared.dump.standing.Standing.{Standing}
 use Rattle.um_trace.specs.declared.summary.events.Counted.{Counted}
 use Rattle.um_trace.specs.declared.summary.threads.Shown.{Shown}
 use Rattle.um_trace.specs.Acts.{event_line}
-use Rattle.um_trace.specs.Dump.{area_lines, awaited, content_text, domain_line, dump, flag_word, holders_text, is_ended, is_shown, is_thread, is_waiter, kept_text, life_text, listed, marks_text, name_text, numbers, object_line, object_line_of, parts_text, pool_line, pool_line_in, rights_text, shown_thread, standing_of, standing_text, state_word, thread_line, thread_line_in, thread_line_of, waits}
+use Rattle.um_trace.specs.Dump.{area_lines, asked_in, awaited, content_text, domain_line, dump, flag_word, holders_text, is_ended, is_shown, is_thread, is_waiter, joins_or, kept_text, life_text, listed, marks_text, name_text, numbers, object_line, object_line_of, parts_text, pool_line, pool_line_in, rights_text, shown_thread, standing_of, standing_text, state_word, thread_line, thread_line_in, thread_line_of, waits, watches}
 use Rattle.um_trace.specs.Names.{domain_text, row_text, thread_text}
 use Rattle.um_trace.specs.Summary.{count_line, events_that, is_so, stands_so, summary_text, threads_that}
 use Rattle.um_trace.specs.Text.{text}
@@ -75,7 +75,8 @@ module _ (image : Image) (s s2 : State) (agree : AgreeInDump image s s2) where
   same_standing t =
       let same = agree.threads t in
       λ i. if not (is_started (same.life i)) then Standing.Unborn else if same.doomed i then Standing.Doomed
-      else if is_ended (same.life i) then Standing.Ended else waits (same_awaited t i)
+      else if is_ended (same.life i) then Standing.Ended
+      else waits (same_awaited t i) (joins_or (asked_in t (agree.joins i)) (watches (asked_in t (agree.futexes i))))
 
   same_rights : (a b : Thread) → ThreadsAgree a b → rights_text image a ≡ rights_text image b
   unfolding rights_text

@@ -6,6 +6,7 @@ use Rattle.um_base.specs.declared.ask.Ask.{Ask}
 use Rattle.um_base.specs.declared.image.Image.{Image}
 use Rattle.um_base.specs.declared.instr.Instr.{Instr}
 use Rattle.um_base.specs.declared.instr.Options.{Options}
+use Rattle.um_base.specs.declared.names.Timeout.{Timeout}
 use Rattle.um_base.specs.declared.names.Addr.{Addr}
 use Rattle.um_base.specs.declared.names.Errno.{Errno}
 use Rattle.um_base.specs.declared.limits.TheConstants.{THREADS}
@@ -18,7 +19,7 @@ use Rattle.um_base.specs.Places.{row_at, setup_at, thread_of_addr}
 use Rattle.um_machine.specs.declared.pending.Pending.{Pending}
 use Rattle.um_machine.specs.declared.thread.Thread.{Thread}
 use Rattle.um_machine.specs.State.{value_of}
-use Rattle.um_machine.specs.Order.{Steps, to_addr, to_thread, to_row, answer_error, answer_zero, work, buffered, privileged, creation_refusal, stack_declared, number_of, new_mode, creates, steps_of, end_steps, fatal_steps}
+use Rattle.um_machine.specs.Order.{Steps, aborts, arms, to_addr, to_thread, to_row, answer_error, answer_void, answer_zero, work, buffered, privileged, creation_refusal, stack_declared, number_of, new_mode, creates, steps_of, end_steps, fatal_steps}
 use Rattle.um_machine.specs.Goes.{next_doom}
 use Rattle.um_machine.proofs.WayLemmas.{HoldsOfWays}
 use Rattle.um_texts.proofs.IdentityLemmas.{has_own}
@@ -53,6 +54,18 @@ fit_sem : (image : Image) (x : ℕ) (ask : Ask) (wrong : Bool)
 fit_sem image x ask true = refl
 fit_sem image x ask false = refl
 
+fit_arms : (image : Image) (timeout : Timeout) (steps : Steps) → are_fit image steps ≡ true → are_fit image (arms timeout steps) ≡ true
+fit_arms image Timeout.NoWait steps h = h
+fit_arms image Timeout.Forever steps h = h
+fit_arms image (Timeout.Ticks n) steps h = h
+
+fit_aborts : (image : Image) (t who : ℕ) → are_fit image (aborts t who) ≡ true
+fit_aborts image t who = by-caller (who == t)
+  where
+    by-caller : (b : Bool) → are_fit image (if b then Pending.Killed ∷ [] else answer_void) ≡ true
+    by-caller true = refl
+    by-caller false = refl
+
 pub fit_steps : (image : Image) → IsSound image → (t : ℕ) (me : Thread) (instr : Instr) → has_own image t ≡ true → are_fit image (steps_of image t me instr) ≡ true
 fit_steps image sound t me (Instr.Set to value) own = refl
 fit_steps image sound t me (Instr.Add to value) own = refl
@@ -82,19 +95,19 @@ fit_steps image sound t me (Instr.NameSet thread addr) own = refl
 fit_steps image sound t me (Instr.SemInit object count limit) own =
     let c = value_of me.registers count in
     let l = value_of me.registers limit in fit_sem image (value_of me.registers object) (Ask.SemInit c l) (l == 0 || nat_lt l c)
-fit_steps image sound t me (Instr.SemTake object timeout) own = refl
+fit_steps image sound t me (Instr.SemTake object timeout) own = fit_arms image timeout _ refl
 fit_steps image sound t me (Instr.SemGive object) own = refl
 fit_steps image sound t me (Instr.SemReset object) own = refl
 fit_steps image sound t me (Instr.SemCount object to) own = refl
 fit_steps image sound t me (Instr.MutexInit object) own = refl
-fit_steps image sound t me (Instr.MutexLock object timeout) own = refl
+fit_steps image sound t me (Instr.MutexLock object timeout) own = fit_arms image timeout _ refl
 fit_steps image sound t me (Instr.MutexUnlock object) own = refl
 fit_steps image sound t me (Instr.MsgqInit object msg_size max_msgs) own =
     let size = value_of me.registers msg_size in
     let most = value_of me.registers max_msgs in
     fit_buffered image (value_of me.registers object) Kind.Msgq (is_within 1 256 size && is_within 1 64 most) (size * most) (Ask.MsgqInit size most (unwrap_or me.pool 0))
-fit_steps image sound t me (Instr.MsgqPut object addr timeout) own = refl
-fit_steps image sound t me (Instr.MsgqGet object addr timeout) own = refl
+fit_steps image sound t me (Instr.MsgqPut object addr timeout) own = fit_arms image timeout _ refl
+fit_steps image sound t me (Instr.MsgqGet object addr timeout) own = fit_arms image timeout _ refl
 fit_steps image sound t me (Instr.MsgqPeek object addr) own = refl
 fit_steps image sound t me (Instr.MsgqPurge object) own = refl
 fit_steps image sound t me (Instr.MsgqUsed object to) own = refl
@@ -102,20 +115,30 @@ fit_steps image sound t me (Instr.StackInit object entries) own =
     let most = value_of me.registers entries in
     fit_buffered image (value_of me.registers object) Kind.Stack (is_within 1 64 most) (4 * most) (Ask.StackInit most (unwrap_or me.pool 0))
 fit_steps image sound t me (Instr.StackPush object value) own = refl
-fit_steps image sound t me (Instr.StackPop object addr timeout) own = refl
+fit_steps image sound t me (Instr.StackPop object addr timeout) own = fit_arms image timeout _ refl
 fit_steps image sound t me (Instr.PipeInit object size) own =
     let most = value_of me.registers size in
     fit_buffered image (value_of me.registers object) Kind.Pipe (is_within 1 256 most) most (Ask.PipeInit most (unwrap_or me.pool 0))
-fit_steps image sound t me (Instr.PipeWrite object addr length timeout) own = refl
-fit_steps image sound t me (Instr.PipeRead object addr length timeout) own = refl
+fit_steps image sound t me (Instr.PipeWrite object addr length timeout) own = fit_arms image timeout _ refl
+fit_steps image sound t me (Instr.PipeRead object addr length timeout) own = fit_arms image timeout _ refl
 fit_steps image sound t me (Instr.PipeReset object) own = refl
 fit_steps image sound t me (Instr.PipeClose object) own = refl
+fit_steps image sound t me (Instr.TimerStart object ticks) own = refl
+fit_steps image sound t me (Instr.TimerStop object) own = refl
+fit_steps image sound t me (Instr.TimerStatus object to) own = refl
+fit_steps image sound t me (Instr.TimerSync object to) own = refl
+fit_steps image sound t me (Instr.Abort thread) own = fit_aborts image t (thread_of_addr image (value_of me.registers thread))
+fit_steps image sound t me (Instr.Join thread timeout) own = fit_arms image timeout _ refl
+fit_steps image sound t me (Instr.Suspend thread) own = refl
+fit_steps image sound t me (Instr.Continue thread) own = refl
+fit_steps image sound t me (Instr.FutexWait addr value timeout) own = fit_arms image timeout _ refl
+fit_steps image sound t me (Instr.FutexWake addr all) own = refl
 fit_steps image sound t me Instr.End own = refl
 fit_steps image sound t me (Instr.Repeat times) own = refl
 
 -- what is left
 pub fit_ways : (image : Image) → HoldsOfWays (λ (left : Steps). are_fit image left ≡ true)
-fit_ways image = record { call = (λ a left h. h, λ left h. h, λ a left h. h); replies = λ reply. refl; fails = λ reason cause. (refl, λ size. refl, λ a. refl) }
+fit_ways image = record { call = (λ a left h. h, λ left h. h, λ a left h. h); runs_to = λ a before deadline left h. h; replies = λ reply. refl; fails = λ reason cause. (refl, λ size. refl, λ a. refl) }
 
 pub fit_fatal : (image : Image) (t : ℕ) (me : Thread) (reason : ℕ) (policy : Policy) → are_fit image (fatal_steps image t me reason policy) ≡ true
 fit_fatal image t me reason Policy.Halt = refl

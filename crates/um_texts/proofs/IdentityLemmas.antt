@@ -11,6 +11,7 @@ use Rattle.std.proofs.lemmas.List.Quantifiers.{position-Some}
 use Rattle.std.proofs.lemmas.Option.{slice_get-get_or, slice_get_past, slice_get-map}
 use Rattle.std.proofs.lemmas.Slice.Eq.{bytes_eq-Decides}
 use Rattle.um_base.specs.declared.image.DomainDef.{DomainDef}
+use Rattle.um_base.specs.declared.image.Futex.{Futex}
 use Rattle.um_base.specs.declared.image.Image.{Image}
 use Rattle.um_base.specs.declared.image.ObjectDef.{ObjectDef}
 use Rattle.um_base.specs.declared.image.Partition.{Partition}
@@ -82,7 +83,8 @@ object_names image lawful =
     let front = map (λ (p : Pool). p.name) image.pools ++ map (λ (p : Partition). p.name) image.partitions ++ map (λ (d : DomainDef). d.name) image.domains in
     let objects = map (λ (o : ObjectDef). o.name) image.objects in
     let scripts = map (λ (s : Script). s.name) image.scripts in
-    distinct_back front objects (distinct_front (front ++ objects) scripts lawful.distinct)
+    let futexes = map (λ (f : Futex). f.name) image.futexes in
+    distinct_back front objects (distinct_front (front ++ objects) scripts (distinct_front (front ++ objects ++ scripts) futexes lawful.distinct))
 
 -- Rows.
 
@@ -159,6 +161,7 @@ setup_index t u Setup.Mutex h k = cc
 setup_index t u (Setup.Msgq size most) h k = cc
 setup_index t u (Setup.Stack entries) h k = cc
 setup_index t u (Setup.Pipe size) h k = cc
+setup_index t u Setup.Timer h k = cc
 
 -- where a static thread's object stands
 pub static_own : (image : Image) (t x : ℕ) → t < STATIC_THREADS → position (is_thread_index t) image.objects ≡ Some x → own_row image t ≡ x

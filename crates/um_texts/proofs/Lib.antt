@@ -22,5 +22,6 @@ pub mod RowLemmas
 pub mod ReadLemmas
 pub mod DropLemmas
 pub mod StepLemmas
+pub mod CellLemmas
 pub mod RunLemmas
 pub mod DumpLemmas

@@ -8,23 +8,37 @@ use Rattle.um_machine.specs.declared.pending.Pending.{Pending}
 use Rattle.um_machine.specs.State.{State}
 use Rattle.um_machine.specs.Memory.{allowed, bytes_at, le_value}
 use Rattle.um_machine.specs.Table.{act_of}
-use Rattle.um_trace.specs.Acts.{thread_act_text, domain_act_text, pair_act_text, heap_act_text, object_act_text, act_text}
+use Rattle.um_trace.specs.Acts.{stop_act_text, time_act_text, thread_act_text, domain_act_text, pair_act_text, heap_act_text, object_act_text, wake_act_text, act_text}
 
--- drops, recycles and inheritances, and all others
+-- drops, recycles and inheritances, steps of time, cuts, what tells of an end, and all others
 pub data Mark : Type 0 where
   drops : Mark
   frees : Mark
   inherits : Mark
+  ticks : Mark
+  lates : Mark
+  expires : Mark
+  cuts : Mark
+  tells : Mark
   others : Mark
 
 abbrev pub mark_of : Act → Mark
 mark_of (Act.DropPair who addr left) = drops
 mark_of (Act.Recycle addr) = frees
 mark_of (Act.Inherit who addr) = inherits
+mark_of (Act.Tick now) = ticks
+mark_of (Act.TimedOut who) = lates
+mark_of (Act.Expire addr woken) = expires
+mark_of (Act.Cut who) = cuts
+mark_of (Act.Left who woken) = tells
 mark_of act = others
 
 abbrev pub mark_in : List ℕ → Mark
-mark_in xs = if bytes_eq (take 3 xs) (codes "dro") then drops else if bytes_eq (take 3 xs) (codes "rec") then frees else if bytes_eq (take 3 xs) (codes "inh") then inherits else others
+mark_in xs =
+    let begins : List ℕ → Bool = λ word. bytes_eq (take 3 xs) word in
+    if begins (codes "dro") then drops else if begins (codes "rec") then frees else if begins (codes "inh") then inherits
+    else if begins (codes "tic") then ticks else if begins (codes "tim") then lates else if begins (codes "exp") then expires
+    else if begins (codes "cut") then cuts else if begins (codes "lef") then tells else others
 
 abbrev pub mark_step : Pending → Mark
 mark_step (Pending.DropPair who a) = drops
@@ -32,10 +46,24 @@ mark_step (Pending.Drops from) = drops
 mark_step (Pending.CleanPair who) = drops
 mark_step Pending.Recycle = frees
 mark_step (Pending.Inherit who) = inherits
+mark_step Pending.Tick = ticks
+mark_step (Pending.TimeOut who) = lates
+mark_step Pending.Expire = expires
+mark_step (Pending.Cut who) = cuts
+mark_step Pending.Left = tells
 mark_step p = others
 
+-- whether a mark is that of a step of an instruction, which neither drops nor frees
+abbrev pub is_own : Mark → Bool
+is_own inherits = true
+is_own others = true
+is_own m = false
+
+pub own-drops : (m : Mark) → is_own m ≡ true → m ≡ drops → ⊥
+own-drops m h e = let bad : false ≡ true = sym (ap is_own e) ∙ h in cc
+
 marked : (image : Image) (act : Act) → mark_in (act_text image act) ≡ mark_of act
-unfolding act_text object_act_text heap_act_text pair_act_text domain_act_text thread_act_text
+unfolding act_text wake_act_text object_act_text heap_act_text pair_act_text domain_act_text thread_act_text time_act_text stop_act_text
 marked image (Act.Begin script line) = refl
 marked image act = refl
 

@@ -6,6 +6,7 @@ use Rattle.std.specs.List.{list_all}
 use Rattle.std.proofs.lemmas.List.Folds.{list_all-append, list_all-map}
 use Rattle.um_base.specs.declared.attr.Attr.{Attr}
 use Rattle.um_base.specs.declared.image.DomainDef.{DomainDef}
+use Rattle.um_base.specs.declared.image.Futex.{Futex}
 use Rattle.um_base.specs.declared.image.Image.{Image}
 use Rattle.um_base.specs.declared.image.ObjectDef.{ObjectDef}
 use Rattle.um_base.specs.declared.image.Partition.{Partition}
@@ -41,12 +42,14 @@ are_named image lawful =
     let domains = map (λ (d : DomainDef). d.name) image.domains in
     let objects = map (λ (o : ObjectDef). o.name) image.objects in
     let scripts = map (λ (s : Script). s.name) image.scripts in
-    let before_scripts = all_front (pools ++ partitions ++ domains ++ objects) scripts lawful.names in
+    let futexes = map (λ (f : Futex). f.name) image.futexes in
+    let before_futexes = all_front (pools ++ partitions ++ domains ++ objects ++ scripts) futexes lawful.names in
+    let before_scripts = all_front (pools ++ partitions ++ domains ++ objects) scripts before_futexes in
     let before_objects = all_front (pools ++ partitions ++ domains) objects before_scripts in
     record {
       domains = sym (list_all-map is_name (λ (d : DomainDef). d.name) image.domains) ∙ all_back (pools ++ partitions) domains before_objects;
       objects = sym (list_all-map is_name (λ (o : ObjectDef). o.name) image.objects) ∙ all_back (pools ++ partitions ++ domains) objects before_scripts;
-      scripts = sym (list_all-map is_name (λ (s : Script). s.name) image.scripts) ∙ all_back (pools ++ partitions ++ domains ++ objects) scripts lawful.names;
+      scripts = sym (list_all-map is_name (λ (s : Script). s.name) image.scripts) ∙ all_back (pools ++ partitions ++ domains ++ objects) scripts before_futexes;
     }
 
 row_in_solid : (o : Option ObjectDef) (x : ℕ) → IfSome o (λ (d : ObjectDef). is_name d.name ≡ true) → solid (row_in o x) ≡ true

@@ -19,12 +19,13 @@ use Rattle.um_machine.specs.declared.pending.Pending.{Pending}
 use Rattle.um_machine.specs.declared.thread.Life.{Life}
 use Rattle.um_machine.specs.declared.thread.Thread.{Thread}
 use Rattle.um_machine.specs.State.{State, nobody, vacant, thread_at, object_at, pair_at, with_pair, is_started, is_living}
+use Rattle.um_machine.specs.Joins.{has_ended, is_ending}
 use Rattle.um_machine.specs.Objects.{is_gone}
 use Rattle.um_machine.specs.Order.{Steps}
-use Rattle.um_machine.specs.Run.{Offers, goes, skips_inherit, skips_drops, begins, exits, tends, objects_from, boot_thread, index_or, granted, booted_one, booted, loaded, blank, opening}
+use Rattle.um_machine.specs.Run.{setup_contents, Offers, goes, skips_inherit, skips_drops, begins, exits, stops, leaves, tends, objects_from, boot_thread, index_or, granted, booted_one, booted, loaded, blank, opening}
 use Rattle.um_texts.proofs.PlainLemmas.{all_get}
 use Rattle.um_texts.proofs.IdentityLemmas.{is_real, has_own}
-use Rattle.um_texts.proofs.StateLemmas.{IsKept, is_acting, has_steps, are_fit, kept_thread, kept_pair, kept_bytes}
+use Rattle.um_texts.proofs.StateLemmas.{runs, IsKept, is_acting, has_steps, are_fit, kept_thread, kept_pair, kept_bytes}
 use Rattle.um_texts.proofs.OwnLemmas.{IsSound, own_of_row, own_index, index_is}
 
 -- Blank states.
@@ -44,6 +45,20 @@ not_gone boots from [] x = rw same_all refl
 not_gone boots from (o ∷ os) zero = refl
 not_gone boots from (o ∷ os) (suc x) = not_gone boots (from + 1) os x
 
+still : (setup : Setup) → runs (setup_contents setup) ≡ false
+still (Setup.Sem count limit) = refl
+still Setup.Mutex = refl
+still (Setup.Msgq size most) = refl
+still (Setup.Stack entries) = refl
+still (Setup.Pipe size) = refl
+still Setup.Timer = refl
+still setup = refl
+
+not_running : (boots : List Boot) (from : ℕ) (os : List ObjectDef) (x : ℕ) → runs (slice_index_or (objects_from boots from os) x vacant).contents ≡ false
+not_running boots from [] x = rw same_all refl
+not_running boots from (o ∷ os) zero = still o.setup
+not_running boots from (o ∷ os) (suc x) = not_running boots (from + 1) os x
+
 kept_blank : (image : Image) → length image.objects ≤ STATIC_ROWS → IsKept image (blank image)
 unfolding blank
 kept_blank image few = record {
@@ -53,6 +68,7 @@ kept_blank image few = record {
   fit = λ t. fit_of (slice_index_or (replicate THREADS nobody) t nobody) (same_all THREADS t nobody);
   real = λ t x h. let none : pair_at (blank image) t x ≡ false = no_pair ROWS x t (replicate THREADS false) (same_all THREADS t false) in absurd (never (sym none ∙ h));
   gone = λ x h. let none : is_gone (object_at (blank image) x).status ≡ false = not_gone image.boots 0 image.objects x in absurd (never (sym none ∙ h));
+  timers = λ x h. let none : runs (object_at (blank image) x).contents ≡ false = not_running image.boots 0 image.objects x in absurd (never (sym none ∙ h));
 }
   where
     never : false ≡ true → ⊥
@@ -141,12 +157,22 @@ steps_acting me h = rw h (or_true (is_started me.life))
     or_true true = refl
     or_true false = refl
 
+ended_acting : (me : Thread) → is_ending me ≡ true → is_acting me ≡ true
+ended_acting me h = life_acting me (by me.life (and_parts _ _ h).0)
+  where
+    by : (life : Life) → has_ended life ≡ true → is_started life ≡ true
+    by Life.Ended k = refl
+    by Life.Living k = refl
+    by Life.Unborn k = k
+
 pub offered_acting : (s : State) (t : ℕ) (p : Pending) (rest : Steps) → Offers s t p rest → is_acting (thread_at s t) ≡ true
 offered_acting s t p rest (goes e) = steps_acting (thread_at s t) (rw e refl)
 offered_acting s t p rest (skips_inherit e h) = steps_acting (thread_at s t) (rw e refl)
 offered_acting s t p rest (skips_drops e h) = steps_acting (thread_at s t) (rw e refl)
 offered_acting s t p rest (begins e h k l) = living_started (thread_at s t) h
 offered_acting s t p rest (exits e h k l) = living_started (thread_at s t) h
+offered_acting s t p rest (stops e h m) = living_started (thread_at s t) h
+offered_acting s t p rest (leaves ending) = ended_acting (thread_at s t) ending
 offered_acting s t p rest (tends is h) = life_acting (thread_at s t) h
 
 -- The first thread.
@@ -160,6 +186,7 @@ no_index Setup.Mutex t e = refl
 no_index (Setup.Msgq size most) t e = refl
 no_index (Setup.Stack entries) t e = refl
 no_index (Setup.Pipe size) t e = refl
+no_index Setup.Timer t e = refl
 
 abbrev pub HasIndex : List ObjectDef → ℕ → Type 0
 HasIndex os t = (k : ℕ) × (o : ObjectDef) × (slice_get os k ≡ Some o) × (setup_thread o.setup ≡ Some t)

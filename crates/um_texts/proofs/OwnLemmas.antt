@@ -45,6 +45,7 @@ after_some Setup.Mutex t = omega arith
 after_some (Setup.Msgq size most) t = omega arith
 after_some (Setup.Stack entries) t = omega arith
 after_some (Setup.Pipe size) t = omega arith
+after_some Setup.Timer t = omega arith
 
 indices_few : (os : List ObjectDef) (t : ℕ) → has_indices os t ≡ true → t ≤ STATIC_THREADS
 indices_few [] t h = grind (arith, nat_tests)
@@ -61,6 +62,7 @@ index_is Setup.Mutex t i h e = cc
 index_is (Setup.Msgq size most) t i h e = cc
 index_is (Setup.Stack entries) t i h e = cc
 index_is (Setup.Pipe size) t i h e = cc
+index_is Setup.Timer t i h e = cc
 
 index_few : (os : List ObjectDef) (t j i : ℕ) (o : ObjectDef) → has_indices os t ≡ true → slice_get os j ≡ Some o → setup_thread o.setup ≡ Some i → i < STATIC_THREADS
 index_few [] t j i o h at e = cc

@@ -1,2 +1,3 @@
--- What the body that steps a word makes of a call that the word doesn't forbid.
+-- What the bodies that step words make of a call that the word doesn't forbid, and of one on a domain.
 pub mod Taken
+pub mod Edits

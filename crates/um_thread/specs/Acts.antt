@@ -10,6 +10,7 @@ use Rattle.um_machine.specs.State.{is_living}
 use Rattle.um_words.specs.declared.fine.FineAct.{FineAct}
 use Rattle.um_words.specs.declared.fine.More.{More}
 use Rattle.um_words.specs.declared.fine.Unseen.{Unseen}
+use Rattle.um_words.specs.declared.kind.TheConstants.{SITES}
 use Rattle.um_words.specs.declared.domain_act.DomainAct.{DomainAct}
 use Rattle.um_words.specs.declared.thread_act.ThreadAct.{ThreadAct}
 use Rattle.um_words.specs.declared.thread_word.ThreadWord.{ThreadWord}
@@ -21,19 +22,25 @@ use Rattle.um_thread.specs.declared.domains.DomainCall.{DomainCall}
 
 -- Threads.
 
-abbrev pub thread_act : ThreadIx → ThreadIx → ThreadCall → FineAct
-thread_act by who (ThreadCall.Start mode domain) = FineAct.Shown (record { thread = by; act = Act.Start who }) (More.Starts mode domain)
-thread_act by who (ThreadCall.Begin script line) = shown by (Act.Begin script line)
-thread_act by who (ThreadCall.Reply reply) = shown by (Act.Answered reply)
-thread_act by who (ThreadCall.Miss addr kind want) = shown by (Act.Check addr kind want (Some Errno.EBADF))
-thread_act by who (ThreadCall.Fatal reason cause) = shown by (Act.Fatal reason cause)
-thread_act by who ThreadCall.Exit = shown by Act.Exit
-thread_act by who ThreadCall.Doom = shown by (Act.Doom who)
-thread_act by who ThreadCall.Hold = FineAct.Unseen Unseen.Hold
-thread_act by who ThreadCall.LetGo = FineAct.Unseen Unseen.LetGo
-thread_act by who (ThreadCall.Move domain) = shown by (Act.DomMove domain who (Reply.Num 0))
-thread_act by who ThreadCall.EnterUser = shown by Act.EnterUser
-thread_act by who ThreadCall.ReadWord = FineAct.Unseen Unseen.WordRead
+-- the step of each call on a word: who lives can be stopped, and goes on
+abbrev pub thread_act : ThreadWord → ThreadIx → ThreadIx → ThreadCall → FineAct
+thread_act w by who (ThreadCall.Start mode domain) = FineAct.Shown (record { thread = by; act = Act.Start who }) (More.Starts mode domain)
+thread_act w by who (ThreadCall.Begin script line) = shown by (Act.Begin script line)
+thread_act w by who (ThreadCall.Reply reply) = shown by (Act.Answered reply)
+thread_act w by who (ThreadCall.Miss addr kind want) = shown by (Act.Check addr kind want (Some Errno.EBADF))
+thread_act w by who (ThreadCall.Fatal reason cause) = shown by (Act.Fatal reason cause)
+thread_act w by who ThreadCall.Exit = shown by Act.Exit
+thread_act w by who ThreadCall.Doom = shown by (Act.Doom who)
+thread_act w by who ThreadCall.Hold = FineAct.Unseen Unseen.Hold
+thread_act w by who ThreadCall.LetGo = FineAct.Unseen Unseen.LetGo
+thread_act w by who (ThreadCall.Move domain) = shown by (Act.DomMove domain who (Reply.Num 0))
+thread_act w by who ThreadCall.EnterUser = shown by Act.EnterUser
+thread_act w by who ThreadCall.Abort = shown by (Act.Abort who (is_living w.life))
+thread_act w by who ThreadCall.Suspend = shown by (Act.Suspend who (is_living w.life))
+thread_act w by who ThreadCall.Continue = shown by (Act.Continue who (is_living w.life))
+thread_act w by who ThreadCall.Killed = shown by Act.Killed
+thread_act w by who (ThreadCall.Note site) = FineAct.Unseen (Unseen.Note site)
+thread_act w by who ThreadCall.ReadWord = FineAct.Unseen Unseen.WordRead
 
 -- what each asks of the body that steps the word
 abbrev pub asked_of_thread : ThreadIx → ThreadIx → ThreadCall → ThreadAct
@@ -48,20 +55,31 @@ asked_of_thread by who ThreadCall.Hold = ThreadAct.Hold
 asked_of_thread by who ThreadCall.LetGo = ThreadAct.LetGo
 asked_of_thread by who (ThreadCall.Move domain) = ThreadAct.DomMove by domain who (Reply.Num 0)
 asked_of_thread by who ThreadCall.EnterUser = ThreadAct.EnterUser by
+asked_of_thread by who ThreadCall.Abort = ThreadAct.Abort by who
+asked_of_thread by who ThreadCall.Suspend = ThreadAct.Suspend by who
+asked_of_thread by who ThreadCall.Continue = ThreadAct.Continue by who
+asked_of_thread by who ThreadCall.Killed = ThreadAct.Killed by
+asked_of_thread by who (ThreadCall.Note site) = ThreadAct.Note site
 asked_of_thread by who ThreadCall.ReadWord = ThreadAct.ReadWord
 
--- a doomed thread begins no line, and doesn't end by itself; one that is held keeps its domain
+-- a thread that is doomed, aborted or suspended begins no line, and doesn't end by itself
+abbrev pub is_stopped : ThreadWord → Bool
+is_stopped w = w.doomed || w.aborted || w.suspended
+
+-- one that is held keeps its domain
 abbrev pub forbids_thread : ThreadCall → ThreadWord → Bool
-forbids_thread (ThreadCall.Begin script line) w = w.doomed
-forbids_thread ThreadCall.Exit w = w.doomed
+forbids_thread (ThreadCall.Begin script line) w = is_stopped w
+forbids_thread ThreadCall.Exit w = is_stopped w
 forbids_thread (ThreadCall.Move domain) w = w.held
 forbids_thread call w = false
 
 -- what each call asks of the word
 abbrev pub fits_thread : ThreadCall → ThreadWord → Bool
 fits_thread (ThreadCall.Start mode domain) w = nat_lt domain DOMAINS
-fits_thread (ThreadCall.Begin script line) w = w.doomed || is_living w.life
-fits_thread ThreadCall.Exit w = w.doomed || is_living w.life
+fits_thread (ThreadCall.Begin script line) w = is_stopped w || is_living w.life
+fits_thread ThreadCall.Exit w = is_stopped w || is_living w.life
+fits_thread ThreadCall.Killed w = is_living w.life && w.aborted
+fits_thread (ThreadCall.Note site) w = nat_lt site SITES
 fits_thread ThreadCall.Hold w = not w.held
 fits_thread ThreadCall.LetGo w = w.held
 fits_thread (ThreadCall.Move domain) w = nat_lt domain DOMAINS

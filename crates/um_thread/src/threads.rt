@@ -3,14 +3,13 @@
 ghost use Rattle.std.specs.Prelude.{◌≡◌, IsTrue};
 ghost use Rattle.um_words.specs.Packed.{thread_in};
 ghost use Rattle.um_site.specs.Calls.{thread_site, Stays, AtThread, MayNext};
-ghost use Rattle.um_thread.specs.{Acts.{thread_act, asked_of_thread, forbids_thread, fits_thread}, Tells.{Tells}};
+ghost use Rattle.um_thread.specs.{Acts.{thread_act, asked_of_thread, forbids_thread, fits_thread, is_stopped}, Tells.{Tells}};
 
 use crate::outcome::{Outcome, forbidden};
 use std::marker::Brand;
 use um_base::{Addr, Cause, DOMAINS, Kind, Mode, Reply, ThreadIx, Want};
-use um_machine::Life;
 use um_site::{Asked, Board, Changed, Place, Seat};
-use um_words::{Content, Local, ThreadAct, ThreadWord};
+use um_words::{Content, Local, SITES, ThreadAct, ThreadWord};
 
 /// What a call does with a thread.
 #[derive(Clone, Copy)]
@@ -20,7 +19,7 @@ pub enum ThreadCall {
         mode: Mode,
         domain: u8,
     },
-    /// It begins a line of a script, where it isn't doomed.
+    /// It begins a line of a script, where nothing stops it.
     Begin {
         script: u8,
         line: u16,
@@ -38,7 +37,7 @@ pub enum ThreadCall {
         reason: u8,
         cause: Cause,
     },
-    /// It ends after its last line, where it isn't doomed.
+    /// It ends after its last line, where nothing stops it.
     Exit,
     /// It is doomed: it begins no other line.
     Doom,
@@ -52,8 +51,25 @@ pub enum ThreadCall {
     },
     /// It drops the rights of a supervisor for good.
     EnterUser,
+    /// It is aborted, if it lives.
+    Abort,
+    /// It is suspended, if it lives.
+    Suspend,
+    /// It is no longer suspended, if it lives.
+    Continue,
+    /// It ends, as one that was aborted.
+    Killed,
+    /// The site of the cell in which its call may wait is noted.
+    Note(u16),
     /// Its word is read, which changes the step number alone.
     ReadWord,
+}
+
+/// Whether a thread may begin no line and not end by itself.
+fn is_stopped(thread: &ThreadWord) -> bool
+    ensures { result ≡ is_stopped thread.now }
+{
+    thread.doomed || thread.aborted || thread.suspended
 }
 
 impl ThreadCall {
@@ -98,6 +114,11 @@ impl ThreadCall {
                 reply: Reply::Num(0),
             },
             ThreadCall::EnterUser => ThreadAct::EnterUser { thread },
+            ThreadCall::Abort => ThreadAct::Abort { thread, who },
+            ThreadCall::Suspend => ThreadAct::Suspend { thread, who },
+            ThreadCall::Continue => ThreadAct::Continue { thread, who },
+            ThreadCall::Killed => ThreadAct::Killed { thread },
+            ThreadCall::Note(site) => ThreadAct::Note(site),
             ThreadCall::ReadWord => ThreadAct::ReadWord,
         }
     }
@@ -111,8 +132,10 @@ impl ThreadCall {
                 usize::from(domain) < DOMAINS
             }
             ThreadCall::Begin { .. } | ThreadCall::Exit => {
-                thread.doomed || matches!(thread.life, Life::Living)
+                is_stopped(thread) || thread.is_living()
             }
+            ThreadCall::Killed => thread.is_living() && thread.aborted,
+            ThreadCall::Note(site) => site < SITES,
             ThreadCall::Hold => !thread.held,
             ThreadCall::LetGo => thread.held,
             _ => true,
@@ -124,7 +147,7 @@ impl ThreadCall {
         ensures { result ≡ forbids_thread self thread.now }
     {
         match self {
-            ThreadCall::Begin { .. } | ThreadCall::Exit => thread.doomed,
+            ThreadCall::Begin { .. } | ThreadCall::Exit => is_stopped(thread),
             ThreadCall::Move { .. } => thread.held,
             _ => false,
         }
@@ -141,10 +164,10 @@ pub fn call_thread<T: Content, L: Local>(
     requires at { AtThread board.now.table.shared.table_id seat.old who.0 asked.seen }
     requires fits { IsTrue (fits_thread asked.call (thread_in asked.seen)) }
     requires goes { MayNext L.goes seat.old (thread_site who.0) asked.seen
-        (thread_act asked.by who asked.call) }
+        (thread_act (thread_in asked.seen) asked.by who asked.call) }
     ensures stays { Stays seat.old seat.new }
     ensures told { Tells L.goes seat.old (thread_site who.0) asked.seen
-        (forbids_thread asked.call (thread_in asked.seen)) (thread_act asked.by who asked.call)
+        (forbids_thread asked.call (thread_in asked.seen)) (thread_act (thread_in asked.seen) asked.by who asked.call)
         (thread_in asked.seen) result seat.new }
 {
     let Some(before) = ThreadWord::unpack(asked.seen) else {

@@ -10,7 +10,7 @@ use Rattle.um_base.specs.declared.names.Addr.{Addr}
 use Rattle.um_base.specs.declared.names.Reply.{Reply}
 use Rattle.um_base.specs.declared.names.ThreadIx.{ThreadIx}
 use Rattle.um_trace.specs.Digits.{address, value}
-use Rattle.um_trace.specs.Words.{verdict_word, any_kind_word, reach_word, pool_word, given_word, leftover_word, set_word, cause_word}
+use Rattle.um_trace.specs.Words.{verdict_word, any_kind_word, reach_word, pool_word, given_word, done_word, leftover_word, set_word, cause_word}
 use Rattle.um_vocabulary.specs.Words.{kind_word, want_word, access_word}
 use Rattle.um_trace.specs.Names.{row_text, thread_text, object_text, domain_text, script_text, part_text, reply_text}
 
@@ -37,7 +37,24 @@ unfoldable pub reserved_text : Image → Option Addr → List ℕ
 reserved_text image (Some a) = object_text image a.0
 reserved_text image None = codes "NULL"
 
--- acts of threads themselves
+-- acts that stop other threads, and of threads that are stopped or wait for an end
+unfoldable pub stop_act_text : Image → Act → List ℕ
+stop_act_text image (Act.Abort who done) = codes "abort " ++ thread_text image who.0 ++ codes " " ++ done_word done
+stop_act_text image (Act.Suspend who done) = codes "suspend " ++ thread_text image who.0 ++ codes " " ++ done_word done
+stop_act_text image (Act.Continue who done) = codes "continue " ++ thread_text image who.0 ++ codes " " ++ done_word done
+stop_act_text image (Act.Cut who) = codes "cut " ++ thread_text image who.0
+stop_act_text image Act.Killed = codes "killed"
+stop_act_text image (Act.Join who answer) = codes "join " ++ thread_text image who.0 ++ codes " " ++ answer_text image answer
+stop_act_text image act = []
+
+-- acts of virtual time, and those
+unfoldable pub time_act_text : Image → Act → List ℕ
+time_act_text image (Act.Arm deadline) = codes "arm " ++ decimal deadline
+time_act_text image (Act.Tick now) = codes "tick " ++ decimal now
+time_act_text image (Act.TimedOut who) = codes "timeout " ++ thread_text image who.0
+time_act_text image act = stop_act_text image act
+
+-- acts of threads themselves, and those
 unfoldable pub thread_act_text : Image → Act → List ℕ
 thread_act_text image (Act.Begin script line) = codes "begin " ++ script_text image script ++ codes " " ++ decimal line
 thread_act_text image Act.Resume = codes "resume"
@@ -48,7 +65,7 @@ thread_act_text image Act.EnterUser = codes "user"
 thread_act_text image (Act.Fatal reason cause) = codes "fatal " ++ decimal reason ++ codes " " ++ cause_word cause
 thread_act_text image (Act.Doom who) = codes "doom " ++ decimal who.0
 thread_act_text image Act.Exit = codes "exit"
-thread_act_text image act = []
+thread_act_text image act = time_act_text image act
 
 -- acts on domains, and the others
 unfoldable pub domain_act_text : Image → Act → List ℕ
@@ -91,6 +108,16 @@ object_act_text image (Act.SetInit addr said) = codes "setinit " ++ object_text 
 object_act_text image (Act.ClearInit addr) = codes "uninit " ++ object_text image addr.0
 object_act_text image act = heap_act_text image act
 
+-- acts that wake threads without a call on an object, calls on futexes, and the others
+unfoldable pub wake_act_text : Image → Act → List ℕ
+wake_act_text image (Act.Expire addr woken) = codes "expire " ++ object_text image addr.0 ++ flat_map (wake_text image) woken
+wake_act_text image (Act.Left who woken) = codes "left " ++ thread_text image who.0 ++ flat_map (wake_text image) woken
+wake_act_text image (Act.FutexWait addr number answer) =
+    codes "futex wait " ++ address addr.0 ++ codes " " ++ value number ++ codes " " ++ answer_text image answer
+wake_act_text image (Act.FutexWake addr answer woken) =
+    codes "futex wake " ++ address addr.0 ++ codes " " ++ answer_text image answer ++ flat_map (wake_text image) woken
+wake_act_text image act = object_act_text image act
+
 -- acts on memory, and the others
 unfoldable pub act_text : Image → Act → List ℕ
 act_text image (Act.Load addr size number) = codes "load " ++ range_text addr.0 size ++ codes " " ++ value number
@@ -102,7 +129,7 @@ act_text image (Act.CopyIn addr size fits) = codes "copyin " ++ range_text addr.
 act_text image (Act.CopyOut addr size fits) = codes "copyout " ++ range_text addr.0 size ++ codes " " ++ reach_word fits
 act_text image (Act.CopyStr addr found) = codes "copystr " ++ address addr.0 ++ codes " " ++ found_text found
 act_text image (Act.Erase stack) = codes "erase " ++ row_text image stack.0
-act_text image act = object_act_text image act
+act_text image act = wake_act_text image act
 
 -- the line of an event: the acting thread and what it does
 unfoldable pub event_line : Image → Event → List ℕ

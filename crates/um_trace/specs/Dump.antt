@@ -2,6 +2,7 @@
 use Rattle.std.specs.Prelude.{ℕ, ◌+◌, ◌*◌, ◌/◌, Bool, true, false, ◌==◌, ◌||◌, not, nat_lt, if◌then◌else◌, List, [], ◌∷◌, ◌++◌, length, codes, decimal, filter, Option, Some, None, position, slice_get, slice_index, slice_index_or}
 use Rattle.std.specs.Fmt.{signed_decimal}
 use Rattle.std.specs.List.{flat_map, join_by, list_all, list_any, range_with_len, slice_range}
+use Rattle.um_base.specs.declared.ask.Ask.{Ask}
 use Rattle.um_base.specs.declared.ask.Waiter.{Waiter}
 use Rattle.um_base.specs.declared.attr.Attr.{Attr}
 use Rattle.um_base.specs.declared.image.Image.{Image}
@@ -60,9 +61,23 @@ is_waiter t waiter = waiter.thread.0 == t
 abbrev pub awaited : List Object → ℕ → Option ℕ
 awaited objects t = position (λ (o : Object). list_any (is_waiter t) o.waiters) objects
 
-abbrev pub waits : Option ℕ → Standing
-waits (Some x) = Standing.Waits (to_row x)
-waits None = Standing.Ready
+-- what a thread asks that stands in a list of waiters
+abbrev pub asked_in : ℕ → List Waiter → Option Ask
+asked_in t [] = None
+asked_in t (w ∷ ws) = if is_waiter t w then Some w.ask else asked_in t ws
+
+-- how a thread is that waits for no object, by what it asks among those who wait for an end, and among those who wait on a futex
+abbrev pub watches : Option Ask → Standing
+watches (Some (Ask.FutexWait a)) = Standing.Watches a
+watches _ = Standing.Ready
+
+abbrev pub joins_or : Option Ask → Standing → Standing
+joins_or (Some (Ask.Join who)) other = Standing.Joins who
+joins_or _ other = other
+
+abbrev pub waits : Option ℕ → Standing → Standing
+waits (Some x) other = Standing.Waits (to_row x)
+waits None other = other
 
 abbrev pub is_ended : Life → Bool
 is_ended Life.Ended = true
@@ -72,13 +87,16 @@ is_ended _ = false
 unfoldable pub standing_of : State → ℕ → Thread → Standing
 standing_of s t me =
     if not (is_started me.life) then Standing.Unborn else if me.doomed then Standing.Doomed
-    else if is_ended me.life then Standing.Ended else waits (awaited s.objects t)
+    else if is_ended me.life then Standing.Ended
+    else waits (awaited s.objects t) (joins_or (asked_in t s.joins) (watches (asked_in t s.futexes)))
 
 unfoldable pub standing_text : Image → Standing → List ℕ
 standing_text image Standing.Unborn = codes "unborn"
 standing_text image Standing.Doomed = codes "doomed"
 standing_text image Standing.Ended = codes "ended"
 standing_text image (Standing.Waits row) = codes "waits:" ++ row_text image row.0
+standing_text image (Standing.Joins who) = codes "waits:" ++ thread_text image who.0
+standing_text image (Standing.Watches a) = codes "waits:" ++ address a.0
 standing_text image Standing.Ready = codes "ready"
 
 -- the mode, the priority and the domain of a thread that was started
@@ -139,6 +157,8 @@ kept_text image (Contents.Mutex owner depth) = owner_text image owner depth
 kept_text image (Contents.Msgq q) = share_text (length q.messages) q.most
 kept_text image (Contents.Stack s) = share_text (length s.values) s.most
 kept_text image (Contents.Pipe p) = if p.closed then codes "closed" else share_text (length p.bytes) p.size
+kept_text image (Contents.Stopped status) = decimal status ++ codes "/stopped"
+kept_text image (Contents.Running deadline) = codes "0/running"
 
 -- a name in digits, or a dash for none
 unfoldable pub digits_text : List ℕ → List ℕ

@@ -57,6 +57,8 @@ events_that counted events = count_by (λ (event : Event). counts counted event.
 abbrev pub is_so : Shown → Standing → Bool
 is_so Shown.Ended Standing.Ended = true
 is_so Shown.Waiting (Standing.Waits row) = true
+is_so Shown.Waiting (Standing.Joins who) = true
+is_so Shown.Waiting (Standing.Watches a) = true
 is_so shown standing = false
 
 abbrev pub stands_so : Shown → State → Option ℕ → Bool

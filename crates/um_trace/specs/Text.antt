@@ -14,6 +14,9 @@ text image events last = flat_map (event_line image) events ++ dump image last
 -- how many threads an act wakes
 abbrev pub woken_by : Act → ℕ
 woken_by (Act.Work addr answer woken) = length woken
+woken_by (Act.Expire addr woken) = length woken
+woken_by (Act.Left who woken) = length woken
+woken_by (Act.FutexWake addr answer woken) = length woken
 woken_by _ = 0
 
 -- how many bytes an event's line has at most, and a dump, and a whole text

@@ -32,6 +32,11 @@ unfoldable pub given_word : Given → List ℕ
 given_word Given.Done = codes "ok"
 given_word Given.Gone = codes "gone"
 
+-- whether a thread lived that is aborted, suspended or resumed
+unfoldable pub done_word : Bool → List ℕ
+done_word true = codes "ok"
+done_word false = codes "none"
+
 unfoldable pub leftover_word : Leftover → List ℕ
 leftover_word Leftover.Kept = codes "kept"
 leftover_word Leftover.Gone = codes "gone"

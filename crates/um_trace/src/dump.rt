@@ -26,7 +26,7 @@ pub fn put_dump<D: Dumped>(room: &mut Vec<u8>, image: &Indexed, last: &D)
     ensures { Puts room.old room.new (dump image.now (D.state last.now)) DUMP_ROOM }
 {
     put_text(room, "dump\n");
-    threads::put_threads(room, image.image(), last);
+    threads::put_threads(room, image, last);
     objects::put_objects(room, image, last);
     domains::put_domains(room, image.image(), last);
     domains::put_pools(room, image.image(), last);

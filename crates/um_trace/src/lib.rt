@@ -2,6 +2,7 @@
 //! how much the run did.
 #![tactic(auto)]
 
+mod answers;
 mod domains;
 mod dump;
 mod heap;
@@ -13,9 +14,12 @@ mod names;
 mod objects;
 mod pairs;
 mod room;
+mod stops;
 mod summary;
 mod threads;
+mod time;
 mod trace;
+mod wakes;
 mod words;
 
 pub use dump::DUMP_ROOM;

@@ -11,8 +11,8 @@ ghost use Rattle.um_trace.specs.{
 
 use crate::indexed::Indexed;
 use crate::names::put_row;
-use crate::objects::put_object_act;
 use crate::room::{put_address, put_decimal, put_short, put_space, put_text, put_value};
+use crate::wakes::put_wake_act;
 use crate::words::{Said, put_said};
 use um_base::{Act, Addr, Found};
 use um_vocabulary::access_word;
@@ -101,6 +101,6 @@ pub fn put_act(room: &mut Vec<u8>, image: &Indexed, act: &Act)
             put_text(room, "erase ");
             put_row(room, image.image(), stack.0 as usize);
         }
-        _ => put_object_act(room, image, act),
+        _ => put_wake_act(room, image, act),
     }
 }

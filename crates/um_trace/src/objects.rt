@@ -1,24 +1,21 @@
 //! The texts of acts on objects.
 
-ghost use Rattle.std.specs.{
-  Prelude.{◌+◌, ◌*◌, ◌≤◌, ◌++◌, length, codes, vec_len, vec_capacity},
-  List.{flat_map},
-};
-ghost use Rattle.um_base.specs.declared.names.{Reply.{Reply}, ThreadIx.{ThreadIx}};
+ghost use Rattle.std.specs.Prelude.{◌+◌, ◌*◌, ◌≤◌, ◌++◌, codes, vec_len, vec_capacity};
 ghost use Rattle.um_trace.specs.{
-  Acts.{answer_text, wake_text, object_act_text},
+  Acts.{object_act_text},
   Room.{Puts},
   Text.{woken_by},
   Words.{any_kind_word, verdict_word},
 };
 ghost use Rattle.um_vocabulary.specs.Words.{want_word};
 
+use crate::answers::{put_answer, put_wakes};
 use crate::heap::put_heap_act;
 use crate::indexed::Indexed;
-use crate::names::{put_of, put_on, put_reply};
-use crate::room::{put_short, put_space, put_text};
+use crate::names::put_on;
+use crate::room::{put_short, put_space};
 use crate::words::{Said, any_kind_word, put_said};
-use um_base::{Act, Answer, Errno, Kind, Replies, Reply, ThreadIx, Want};
+use um_base::{Act, Errno, Kind, Want};
 use um_vocabulary::want_word;
 
 /// The kind and the state that a check wants, and what it says.
@@ -33,39 +30,6 @@ fn put_check(room: &mut Vec<u8>, kind: Option<Kind>, want: Want, verdict: Option
     put_space(room);
     put_short(room, want_word(want));
     put_said(room, Said::Verdict(verdict));
-}
-
-/// What an act on an object's contents answers.
-#[tactic(auto, unfolding(crate::specs::Acts::answer_text))]
-fn put_answer(room: &mut Vec<u8>, image: &Indexed, answer: Answer)
-    requires { vec_len room.old + 24 ≤ vec_capacity room.old }
-    ensures { Puts room.old room.new (answer_text image.now answer) 24 }
-{
-    match answer {
-        Answer::Now(reply) => put_reply(room, image, reply),
-        Answer::Wait => put_text(room, "wait"),
-    }
-}
-
-/// A thread that is woken, with its reply.
-#[tactic(auto, unfolding(crate::specs::Acts::wake_text))]
-fn put_wake(room: &mut Vec<u8>, image: &Indexed, woken: (ThreadIx, Reply))
-    requires { vec_len room.old + 64 ≤ vec_capacity room.old }
-    ensures { Puts room.old room.new (wake_text image.now woken) 64 }
-{
-    put_of(room, image, " wake ", woken.0);
-    put_space(room);
-    put_reply(room, image, woken.1);
-}
-
-/// The threads that an act wakes, in order, each with its reply.
-fn put_wakes(room: &mut Vec<u8>, image: &Indexed, woken: &Replies)
-    requires { vec_len room.old + 64 * length woken.now ≤ vec_capacity room.old }
-    ensures { Puts room.old room.new (flat_map (wake_text image.now) woken.now) (64 * length woken.now) }
-{
-    for i in 0..woken.len() {
-        put_wake(room, image, woken.at(i));
-    }
 }
 
 /// The text of an act on an object, or of any other that isn't about memory.

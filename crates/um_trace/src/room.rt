@@ -79,6 +79,15 @@ fn put_digit(room: &mut Vec<u8>, digit: u32)
     room.push_reserved(48 + digit as u8);
 }
 
+/// A number of ticks.
+pub fn put_ticks(room: &mut Vec<u8>, n: u64)
+    requires { vec_len room.old + 20 ≤ vec_capacity room.old }
+    ensures { Puts room.old room.new (decimal n) 20 }
+{
+    let mut buffer = Buffer::new();
+    put_text(room, buffer.format(n))
+}
+
 /// A number.
 pub fn put_decimal(room: &mut Vec<u8>, n: u32)
     requires { vec_len room.old + 10 ≤ vec_capacity room.old }

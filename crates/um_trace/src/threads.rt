@@ -6,6 +6,7 @@ ghost use Rattle.um_trace.specs.{Acts.{thread_act_text}, Names.{script_text}, Ro
 use crate::indexed::Indexed;
 use crate::names::{put_of, put_reply};
 use crate::room::{put_decimal, put_numbered, put_short, put_space, put_text};
+use crate::time::put_time_act;
 use crate::words::cause_word;
 use um_base::{Act, Image};
 
@@ -22,7 +23,7 @@ fn put_script(room: &mut Vec<u8>, image: &Image, word: &str, script: u8)
     }
 }
 
-/// The text of such an act. Of any other it puts nothing.
+/// The text of such an act, or of one of virtual time or that stops a thread.
 #[tactic(auto, unfolding(crate::specs::Acts::thread_act_text))]
 pub fn put_thread_act(room: &mut Vec<u8>, image: &Indexed, act: &Act)
     requires { vec_len room.old + 100 ≤ vec_capacity room.old }
@@ -49,6 +50,6 @@ pub fn put_thread_act(room: &mut Vec<u8>, image: &Indexed, act: &Act)
         }
         Act::Doom { who } => put_numbered(room, "doom ", who.0 as u32),
         Act::Exit => put_text(room, "exit"),
-        _ => {}
+        _ => put_time_act(room, image, act),
     }
 }

@@ -26,6 +26,9 @@ pub fn woken_by(act: &Act) -> usize
             answer: _,
             woken,
         } => woken.len(),
+        Act::Expire { woken, .. } => woken.len(),
+        Act::Left { woken, .. } => woken.len(),
+        Act::FutexWake { woken, .. } => woken.len(),
         _ => 0,
     }
 }

@@ -30,13 +30,15 @@ pub enum Said {
     Pool(bool),
     /// Whether an object still stood.
     Given(Given),
+    /// Whether a thread lived that is stopped, or goes on.
+    Done(bool),
     /// What a dropped permission left.
     Left(Leftover),
     /// What marking an object as initialised said.
     Set(SetSaid),
 }
 
-#[tactic(auto, unfolding(crate::specs::Words::verdict_word, crate::specs::Words::reach_word, crate::specs::Words::pool_word, crate::specs::Words::given_word, crate::specs::Words::leftover_word, crate::specs::Words::set_word,))]
+#[tactic(auto, unfolding(crate::specs::Words::verdict_word, crate::specs::Words::reach_word, crate::specs::Words::pool_word, crate::specs::Words::given_word, crate::specs::Words::done_word, crate::specs::Words::leftover_word, crate::specs::Words::set_word,))]
 fn said_word(said: Said) -> &'static [u8]
     ensures value { result.now ≡ said_word said }
     ensures short { length result.now ≤ 10 }
@@ -50,6 +52,8 @@ fn said_word(said: Said) -> &'static [u8]
         Said::Pool(false) => errno_word(Errno::ENOMEM),
         Said::Given(Given::Done) => b"ok",
         Said::Given(Given::Gone) => b"gone",
+        Said::Done(true) => b"ok",
+        Said::Done(false) => b"none",
         Said::Left(Leftover::Kept) => b"kept",
         Said::Left(Leftover::Gone) => b"gone",
         Said::Left(Leftover::NoPair) => b"none",

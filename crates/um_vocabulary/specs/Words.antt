@@ -8,7 +8,6 @@ use Rattle.um_base.specs.declared.names.Kind.{Kind}
 use Rattle.um_base.specs.declared.names.Mode.{Mode}
 use Rattle.um_base.specs.declared.names.Mpu.{Mpu}
 use Rattle.um_base.specs.declared.names.Policy.{Policy}
-use Rattle.um_base.specs.declared.names.Timeout.{Timeout}
 use Rattle.um_base.specs.declared.names.Want.{Want}
 
 -- what a place stands in: an object, a partition, or the read-only data
@@ -43,14 +42,6 @@ mode_word Mode.Supervisor = codes "supervisor"
 abbrev pub mode_named : List ℕ → Option Mode
 mode_named s = spelled mode_word (Mode.User ∷ Mode.Supervisor ∷ []) s
 
--- how long a call waits
-abbrev pub timeout_word : Timeout → List ℕ
-timeout_word Timeout.NoWait = codes "K_NO_WAIT"
-timeout_word Timeout.Forever = codes "K_FOREVER"
-
-abbrev pub timeout_named : List ℕ → Option Timeout
-timeout_named s = spelled timeout_word (Timeout.NoWait ∷ Timeout.Forever ∷ []) s
-
 -- the attributes of partitions by their names (Zephyr: User Mode, Memory Protection Design); other rights have none
 abbrev pub attr_word : Attr → List ℕ
 attr_word attr =
@@ -81,13 +72,14 @@ kind_word Kind.Mutex = codes "mutex"
 kind_word Kind.Msgq = codes "msgq"
 kind_word Kind.Stack = codes "stack"
 kind_word Kind.Pipe = codes "pipe"
+kind_word Kind.Timer = codes "timer"
 
--- a line of a script gives those that can be allocated: all but thread stacks
+-- a line of a script gives those that can be allocated: all but thread stacks and timers
 abbrev pub dynamic_kinds : List Kind
 dynamic_kinds = Kind.Thread ∷ Kind.Sem ∷ Kind.Mutex ∷ Kind.Msgq ∷ Kind.Stack ∷ Kind.Pipe ∷ []
 
 abbrev pub kinds : List Kind
-kinds = Kind.Thread ∷ Kind.ThreadStack ∷ Kind.Sem ∷ Kind.Mutex ∷ Kind.Msgq ∷ Kind.Stack ∷ Kind.Pipe ∷ []
+kinds = Kind.Thread ∷ Kind.ThreadStack ∷ Kind.Sem ∷ Kind.Mutex ∷ Kind.Msgq ∷ Kind.Stack ∷ Kind.Pipe ∷ Kind.Timer ∷ []
 
 abbrev pub dynamic_kind_named : List ℕ → Option Kind
 dynamic_kind_named s = spelled kind_word dynamic_kinds s
@@ -111,11 +103,14 @@ errno_word Errno.ENOSPC = codes "ENOSPC"
 errno_word Errno.ENOENT = codes "ENOENT"
 errno_word Errno.EPIPE = codes "EPIPE"
 errno_word Errno.ECANCELED = codes "ECANCELED"
+errno_word Errno.EDEADLK = codes "EDEADLK"
+errno_word Errno.EACCES = codes "EACCES"
+errno_word Errno.ETIMEDOUT = codes "ETIMEDOUT"
 
 abbrev pub errnos : List Errno
 errnos =
     Errno.EPERM ∷ Errno.EBADF ∷ Errno.EINVAL ∷ Errno.EADDRINUSE ∷ Errno.EFAULT ∷ Errno.EBUSY ∷ Errno.EAGAIN ∷ Errno.ENOMEM ∷ Errno.ENOMSG
-    ∷ Errno.ENOSPC ∷ Errno.ENOENT ∷ Errno.EPIPE ∷ Errno.ECANCELED ∷ []
+    ∷ Errno.ENOSPC ∷ Errno.ENOENT ∷ Errno.EPIPE ∷ Errno.ECANCELED ∷ Errno.EDEADLK ∷ Errno.EACCES ∷ Errno.ETIMEDOUT ∷ []
 
 abbrev pub errno_named : List ℕ → Option Errno
 errno_named s = spelled errno_word errnos s

@@ -9,5 +9,5 @@ pub use names::{is_name, is_place_name};
 pub use words::{
     access_word, attr_named, attr_word, dynamic_kind_named, errno_word, given_attr_named,
     kind_named, kind_word, mode_named, mode_word, mpu_named, mpu_word, policy_named, policy_word,
-    timeout_named, timeout_word, want_word,
+    want_word,
 };

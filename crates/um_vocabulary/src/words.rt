@@ -4,7 +4,7 @@ ghost use Rattle.std.specs.Prelude.{◌≡◌, ◌≤◌, Some, IfSome, IsTrue, 
 ghost use Rattle.um_base.specs.Lawful.{is_dynamic_kind, is_given_attr, is_named_attr};
 ghost use Rattle.um_vocabulary.specs.Words as words;
 
-use um_base::{Access, Attr, Errno, Kind, Mode, Mpu, Policy, Timeout, Want};
+use um_base::{Access, Attr, Errno, Kind, Mode, Mpu, Policy, Want};
 
 const MPUS: [Mpu; 2] = [Mpu::V7, Mpu::V8];
 
@@ -73,30 +73,6 @@ pub fn mode_named(text: &[u8]) -> Option<Mode>
     MODES.iter().copied().find(|mode| text == mode_word(*mode))
 }
 
-const TIMEOUTS: [Timeout; 2] = [Timeout::NoWait, Timeout::Forever];
-
-/// The word of a timeout.
-pub fn timeout_word(timeout: Timeout) -> &'static [u8]
-    ensures value { result.now ≡ words.timeout_word timeout }
-    ensures again { words.timeout_named result.now ≡ Some timeout }
-{
-    match timeout {
-        Timeout::NoWait => b"K_NO_WAIT",
-        Timeout::Forever => b"K_FOREVER",
-    }
-}
-
-/// The timeout that a text names.
-pub fn timeout_named(text: &[u8]) -> Option<Timeout>
-    ensures value { result ≡ words.timeout_named text.now }
-    ensures word { IfSome result (λ timeout. words.timeout_word timeout ≡ text.now) }
-{
-    TIMEOUTS
-        .iter()
-        .copied()
-        .find(|timeout| text == timeout_word(*timeout))
-}
-
 /// The attributes, and at the end the one that no description may give.
 const ATTRS: [Attr; 7] = [
     Attr::P_RW_U_RW,
@@ -149,7 +125,7 @@ pub fn given_attr_named(text: &[u8]) -> Option<Attr>
 }
 
 /// The kinds of objects.
-const KINDS: [Kind; 7] = [
+const KINDS: [Kind; 8] = [
     Kind::Thread,
     Kind::ThreadStack,
     Kind::Sem,
@@ -157,6 +133,7 @@ const KINDS: [Kind; 7] = [
     Kind::Msgq,
     Kind::Stack,
     Kind::Pipe,
+    Kind::Timer,
 ];
 
 /// The word of a kind.
@@ -174,6 +151,7 @@ pub fn kind_word(kind: Kind) -> &'static [u8]
         Kind::Msgq => b"msgq",
         Kind::Stack => b"stack",
         Kind::Pipe => b"pipe",
+        Kind::Timer => b"timer",
     }
 }
 
@@ -226,6 +204,9 @@ pub fn errno_word(error: Errno) -> &'static [u8]
         Errno::ENOENT => b"ENOENT",
         Errno::EPIPE => b"EPIPE",
         Errno::ECANCELED => b"ECANCELED",
+        Errno::EDEADLK => b"EDEADLK",
+        Errno::EACCES => b"EACCES",
+        Errno::ETIMEDOUT => b"ETIMEDOUT",
     }
 }
 

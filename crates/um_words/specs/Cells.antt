@@ -5,7 +5,7 @@ use Rattle.um_words.specs.declared.fine.FineAct.{FineAct}
 use Rattle.um_words.specs.declared.fine.Unseen.{Unseen}
 use Rattle.um_words.specs.declared.cell_word.CellWord.{CellWord}
 use Rattle.um_words.specs.declared.kind.CellKind.{CellKind}
-use Rattle.um_words.specs.CellActs.{object_takes, parts_takes, memory_takes, heap_takes, is_resume}
+use Rattle.um_words.specs.CellActs.{object_takes, parts_takes, memory_takes, heap_takes, clock_takes, join_takes, is_resume}
 
 -- Which steps it takes. The bounds on the ready list and on running threads are those of the word.
 
@@ -21,10 +21,13 @@ takes_scheduling ready place running (Unseen.Next who) = ready
 takes_scheduling ready place running (Unseen.Wake who there) = place
 takes_scheduling ready place running (Unseen.Park who there) = running && place
 takes_scheduling ready place running (Unseen.Add who) = place
+takes_scheduling ready place running (Unseen.Cut who there) = place
 takes_scheduling ready place running Unseen.Done = running
 takes_scheduling ready place running unseen = false
 
 abbrev pub scheduler_takes_unseen : CellWord → Unseen → Bool
+scheduler_takes_unseen w Unseen.Owe = nat_lt w.owed 524287
+scheduler_takes_unseen w Unseen.Paid = nat_lt 0 w.owed
 scheduler_takes_unseen w unseen = takes_scheduling (has_ready w) (has_place w) (nat_lt 0 w.running) unseen
 
 abbrev pub scheduler_takes : CellWord → FineAct → Bool
@@ -37,6 +40,8 @@ word_takes CellKind.Domain w act = parts_takes act
 word_takes CellKind.Memory w act = memory_takes act
 word_takes CellKind.Heap w act = heap_takes act
 word_takes CellKind.Scheduler w act = scheduler_takes w act
+word_takes CellKind.Clock w act = clock_takes act
+word_takes CellKind.Join w act = join_takes act
 word_takes CellKind.Unused w act = false
 
 -- The word that is left, but for its step number.
@@ -56,6 +61,9 @@ scheduler_after_unseen w (Unseen.Next who) = first_taken w
 scheduler_after_unseen w (Unseen.Wake who ready) = with_ready w ready
 scheduler_after_unseen w (Unseen.Park who ready) = one_less (with_ready w ready)
 scheduler_after_unseen w (Unseen.Add who) = with_ready w true
+scheduler_after_unseen w (Unseen.Cut who ready) = with_ready w ready
+scheduler_after_unseen w Unseen.Owe = record w { owed = w.owed + 1 }
+scheduler_after_unseen w Unseen.Paid = record w { owed = w.owed - 1 }
 scheduler_after_unseen w Unseen.Done = one_less w
 scheduler_after_unseen w unseen = w
 

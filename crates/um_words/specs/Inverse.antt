@@ -1,6 +1,6 @@
 -- Packing and unpacking are inverse.
-use Rattle.std.proofs.Common.{◌≡◌, ℕ, ◌+◌, ◌*◌, ◌<◌, ◌/◌, ◌%◌, Bool, true, false, not, Some, None, refl, sym, ap, ◌∙◌, arith, subst}
-use Rattle.std.specs.Prelude.{◌==◌, nat_lt, ◌&&◌, if◌then◌else◌}
+use Rattle.std.proofs.Common.{◌≡◌, ℕ, ◌+◌, ◌*◌, ◌<◌, ◌/◌, ◌%◌, Bool, true, false, not, Option, Some, None, refl, sym, ap, ◌∙◌, arith, subst}
+use Rattle.std.specs.Prelude.{◌==◌, nat_lt, ◌&&◌, ◌||◌, if◌then◌else◌, IfSome}
 use Rattle.std.proofs.lemmas.Bool.Decides.{nat_tests}
 use Rattle.um_base.specs.declared.names.Mode.{Mode}
 use Rattle.um_machine.specs.declared.thread.Life.{Life}
@@ -12,7 +12,7 @@ use Rattle.um_words.specs.declared.dom_word.DomWord.{DomWord}
 use Rattle.um_words.specs.declared.cell_word.CellWord.{CellWord}
 use Rattle.um_words.specs.Bits.{bit, bits_of, number_of}
 use Rattle.um_words.specs.BitLists.{number_of-bits}
-use Rattle.um_words.specs.Packed.{stage_code, stage_of, packed_row, row_of, FitsRow, life_code, life_of, mode_of, packed_thread, thread_in, is_thread, thread_of, FitsThread, packed_domain, domain_in, is_domain, domain_of, FitsDomain, packed_cell, cell_of, FitsCell}
+use Rattle.um_words.specs.Packed.{stage_code, stage_of, packed_row, row_of, FitsRow, life_code, life_of, mode_of, note_code, note_of, is_note, packed_thread, thread_in, is_thread, thread_of, FitsThread, packed_domain, domain_in, is_domain, domain_of, FitsDomain, packed_cell, cell_of, FitsCell}
 
 pub bit-small : (b : Bool) → bit b < 2
 bit-small true = omega arith
@@ -83,18 +83,63 @@ mode-back Mode.Supervisor = refl
 mode-test : (n : ℕ) → n < 2 → bit (not (is_user (mode_of (n == 1)))) ≡ n
 mode-test n h = elim (n == 1) as (λ b. ((n == 1) ≡ b) → bit (not (is_user (mode_of b))) ≡ n) [ true ↦ λ e. grind (arith, nat_tests) | false ↦ λ e. grind (arith, nat_tests) ] refl
 
-pub thread-digits : (l a b m d n w : ℕ) → l < 3 → a < 2 → b < 2 → m < 2 → d < 8
-    → w ≡ l + 4 * a + 8 * b + 16 * m + 32 * d + 68719476736 * n
-    → (w % 4 ≡ l) × (w / 4 % 2 ≡ a) × (w / 8 % 2 ≡ b) × (w / 16 % 2 ≡ m) × (w / 32 % 8 ≡ d) × (w / 256 % 268435456 ≡ 0) × (w / 68719476736 ≡ n)
-thread-digits l a b m d n w hl ha hb hm hd e = (omega arith, omega arith, omega arith, omega arith, omega arith, omega arith, omega arith)
+note-small : (note : Option ℕ) → IfSome note (λ site. site < 65536) → note_code note < 131072
+note-small None h = omega arith
+note-small (Some site) h = omega arith
+
+odd-test : (n : ℕ) → ((1 + 2 * n) % 2 == 1) ≡ true
+odd-test n = let e : (1 + 2 * n) % 2 ≡ 1 = omega arith in ap (λ m. m == 1) e
+
+half-odd : (n : ℕ) → (1 + 2 * n) / 2 ≡ n
+half-odd n = omega arith
+
+note-back : (note : Option ℕ) → note_of (note_code note) ≡ note
+note-back None = refl
+note-back (Some site) = (λ i. if odd-test site i then Some (half-odd site i) else None)
+
+note-fits : (note : Option ℕ) → is_note (note_code note) ≡ true
+note-fits None = refl
+note-fits (Some site) = ap (λ b. b || (1 + 2 * site == 0)) (odd-test site)
+
+-- a code that is odd, and one that is even
+note-odd : (n : ℕ) → n % 2 ≡ 1 → note_code (note_of n) ≡ n
+note-odd n h = ap (λ b. note_code (if b then Some (n / 2) else None)) (ap (λ m. m == 1) h) ∙ omega arith
+
+note-none : (n : ℕ) → n ≡ 0 → note_code (note_of n) ≡ n
+note-none n h = ap (λ m. note_code (note_of m)) h ∙ sym h
+
+note-by : (odd zero : Bool) (n : ℕ) → (n % 2 == 1) ≡ odd → (n == 0) ≡ zero → (odd || zero) ≡ true → note_code (note_of n) ≡ n
+note-by true zero n e z h = note-odd n (grind (arith, nat_tests))
+note-by false true n e z h = note-none n (grind (arith, nat_tests))
+note-by false false n e z h = absurd (cc)
+
+note-test : (n : ℕ) → is_note n ≡ true → note_code (note_of n) ≡ n
+note-test n h = note-by (n % 2 == 1) (n == 0) n refl refl h
+
+pub thread-digits : (l a b m d p q c n w : ℕ) → l < 3 → a < 2 → b < 2 → m < 2 → d < 8 → p < 2 → q < 2 → c < 131072
+    → w ≡ l + 4 * a + 8 * b + 16 * m + 32 * d + 256 * p + 512 * q + 1024 * c + 68719476736 * n
+    → (w % 4 ≡ l) × (w / 4 % 2 ≡ a) × (w / 8 % 2 ≡ b) × (w / 16 % 2 ≡ m) × (w / 32 % 8 ≡ d) × (w / 256 % 2 ≡ p) × (w / 512 % 2 ≡ q) × (w / 1024 % 131072 ≡ c) × (w / 134217728 % 512 ≡ 0) × (w / 68719476736 ≡ n)
+thread-digits l a b m d p q c n w hl ha hb hm hd hp hq hc e = (omega arith, omega arith, omega arith, omega arith, omega arith, omega arith, omega arith, omega arith, omega arith, omega arith)
+
+-- the digits of a thread's word
+abbrev pub ThreadDigits : ThreadWord → ℕ → Type 0
+ThreadDigits t w =
+    (w % 4 ≡ life_code t.life) × (w / 4 % 2 ≡ bit t.doomed) × (w / 8 % 2 ≡ bit t.held) × (w / 16 % 2 ≡ bit (not (is_user t.mode))) × (w / 32 % 8 ≡ t.domain)
+    × (w / 256 % 2 ≡ bit t.aborted) × (w / 512 % 2 ≡ bit t.suspended) × (w / 1024 % 131072 ≡ note_code t.note) × (w / 134217728 % 512 ≡ 0) × (w / 68719476736 ≡ t.number)
+
+pub digits-of : (t : ThreadWord) → t.domain < 8 → IfSome t.note (λ site. site < 65536) → ThreadDigits t (packed_thread t)
+digits-of t domain note =
+    thread-digits (life_code t.life) (bit t.doomed) (bit t.held) (bit (not (is_user t.mode))) t.domain (bit t.aborted) (bit t.suspended) (note_code t.note) t.number (packed_thread t)
+    (life-small t.life) (bit-small t.doomed) (bit-small t.held) (bit-small (not (is_user t.mode))) domain (bit-small t.aborted) (bit-small t.suspended) (note-small t.note note) refl
 
 pub thread-back : (t : ThreadWord) → FitsThread t → thread_of (packed_thread t) ≡ Some t
 thread-back t f =
-    let d = thread-digits (life_code t.life) (bit t.doomed) (bit t.held) (bit (not (is_user t.mode))) t.domain t.number (packed_thread t) (life-small t.life) (bit-small t.doomed) (bit-small t.held) (bit-small (not (is_user t.mode))) f.domain refl in
+    let d = digits-of t f.domain f.note in
     let w = packed_thread t in
     let small : nat_lt (w % 4) 3 ≡ true = let l = life-small t.life in let e = d.0 in grind (arith, nat_tests) in
-    let zeros : (w / 256 % 268435456 == 0) ≡ true = ap (λ n. n == 0) d.5 in
-    let whole : is_thread w ≡ true = λ i. small i && zeros i in
+    let zeros : (w / 134217728 % 512 == 0) ≡ true = ap (λ n. n == 0) d.8 in
+    let noted : is_note (w / 1024 % 131072) ≡ true = ap is_note d.7 ∙ note-fits t.note in
+    let whole : is_thread w ≡ true = λ i. small i && zeros i && noted i in
     ap (λ b. if b then Some (thread_in w) else None) whole
     ∙ ap Some (λ i. record {
       life = (ap life_of d.0 ∙ life-back t.life) i;
@@ -102,16 +147,33 @@ thread-back t f =
       held = (ap (λ n. n == 1) d.2 ∙ bit-back t.held) i;
       mode = (ap (λ n. mode_of (n == 1)) d.3 ∙ mode-back t.mode) i;
       domain = d.4 i;
-      number = d.6 i;
+      aborted = (ap (λ n. n == 1) d.5 ∙ bit-back t.aborted) i;
+      suspended = (ap (λ n. n == 1) d.6 ∙ bit-back t.suspended) i;
+      note = (ap note_of d.7 ∙ note-back t.note) i;
+      number = d.9 i;
     })
 
-pub thread-whole : (w : ℕ) → w % 4 < 3 → w / 256 % 268435456 ≡ 0 → packed_thread (thread_in w) ≡ w
-thread-whole w h z =
+pub thread-whole : (w : ℕ) → w % 4 < 3 → w / 134217728 % 512 ≡ 0 → is_note (w / 1024 % 131072) ≡ true → packed_thread (thread_in w) ≡ w
+thread-whole w h z y =
     let l = life-test (w % 4) h in
     let a = bit-test (w / 4 % 2) (omega arith) in
     let b = bit-test (w / 8 % 2) (omega arith) in
     let m = mode-test (w / 16 % 2) (omega arith) in
+    let p = bit-test (w / 256 % 2) (omega arith) in
+    let q = bit-test (w / 512 % 2) (omega arith) in
+    let c = note-test (w / 1024 % 131072) y in
     omega arith
+
+both-hold : (a b c : Bool) → (a && b && c) ≡ true → (a ≡ true) × (b ≡ true) × (c ≡ true)
+both-hold true true true h = (refl, refl, refl)
+both-hold true true false h = absurd (cc)
+both-hold true false c h = absurd (cc)
+both-hold false b c h = absurd (cc)
+
+pub thread-read : (w : ℕ) → is_thread w ≡ true → packed_thread (thread_in w) ≡ w
+thread-read w h =
+    let b = both-hold (nat_lt (w % 4) 3) (w / 134217728 % 512 == 0) (is_note (w / 1024 % 131072)) h in
+    thread-whole w (let l = b.0 in grind (arith, nat_tests)) (let z = b.1 in grind (arith, nat_tests)) b.2
 
 pub domain-digits : (a b r v n w : ℕ) → a < 2 → b < 2 → r < 128 → v < 1048576
     → w ≡ a + 2 * b + 4 * r + 512 * v + 68719476736 * n
@@ -151,8 +213,8 @@ cell-back c hr hu f =
 pub cell-whole : (w : ℕ) → packed_cell (cell_of w) ≡ w
 cell-whole w = let a = bit-test (w % 2) (omega arith) in omega arith
 
-pub thread-number : (t : ThreadWord) → t.domain < 8 → packed_thread t / 68719476736 ≡ t.number
-thread-number t h = (thread-digits (life_code t.life) (bit t.doomed) (bit t.held) (bit (not (is_user t.mode))) t.domain t.number (packed_thread t) (life-small t.life) (bit-small t.doomed) (bit-small t.held) (bit-small (not (is_user t.mode))) h refl).6
+pub thread-number : (t : ThreadWord) → t.domain < 8 → IfSome t.note (λ site. site < 65536) → packed_thread t / 68719476736 ≡ t.number
+thread-number t domain note = (digits-of t domain note).9
 
 pub domain-number : (d : DomWord) → d.readers < 128 → d.version < 1048576 → packed_domain d / 68719476736 ≡ d.number
 domain-number d hr hv = (domain-digits (bit d.init) (bit d.writer) d.readers d.version d.number (packed_domain d) (bit-small d.init) (bit-small d.writer) hr hv refl).5

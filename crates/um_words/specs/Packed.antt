@@ -1,5 +1,5 @@
 -- What the bits of each word are, counted from the lowest.
-use Rattle.std.specs.Prelude.{ℕ, ◌+◌, ◌*◌, ◌<◌, ◌/◌, ◌%◌, Bool, ◌==◌, if◌then◌else◌, ◌&&◌, nat_lt, not, Option, Some, None}
+use Rattle.std.specs.Prelude.{ℕ, ◌+◌, ◌*◌, ◌<◌, ◌/◌, ◌%◌, Bool, ◌==◌, if◌then◌else◌, ◌&&◌, ◌||◌, nat_lt, not, Option, Some, None, IfSome}
 use Rattle.um_base.specs.declared.names.Mode.{Mode}
 use Rattle.um_machine.specs.declared.thread.Life.{Life}
 use Rattle.um_machine.specs.State.{is_user}
@@ -42,7 +42,8 @@ pub record FitsRow (r : RowWord) : Type 0 where
   pub claims : r.claims < 128
   pub number : r.number < 1048576
 
--- A thread: 0 and 1 its life, 2 doomed, 3 held, 4 supervisor, 5 to 7 its domain, 36 to 63 the step number. All others are zero.
+-- A thread: 0 and 1 its life, 2 doomed, 3 held, 4 supervisor, 5 to 7 its domain, 8 aborted, 9 suspended, 10 whether a site is noted, 11 to 26 that site,
+-- 36 to 63 the step number. All others are zero.
 
 abbrev pub life_code : Life → ℕ
 life_code Life.Unborn = 0
@@ -55,9 +56,17 @@ life_of n = if n == 0 then Life.Unborn else if n == 1 then Life.Living else Life
 abbrev pub mode_of : Bool → Mode
 mode_of supervisor = if supervisor then Mode.Supervisor else Mode.User
 
+abbrev pub note_code : Option ℕ → ℕ
+note_code None = 0
+note_code (Some site) = 1 + 2 * site
+
+abbrev pub note_of : ℕ → Option ℕ
+note_of n = if n % 2 == 1 then Some (n / 2) else None
+
 abbrev pub packed_thread : ThreadWord → ℕ
 packed_thread t =
-    life_code t.life + 4 * bit t.doomed + 8 * bit t.held + 16 * bit (not (is_user t.mode)) + 32 * t.domain + 68719476736 * t.number
+    life_code t.life + 4 * bit t.doomed + 8 * bit t.held + 16 * bit (not (is_user t.mode)) + 32 * t.domain
+    + 256 * bit t.aborted + 512 * bit t.suspended + 1024 * note_code t.note + 68719476736 * t.number
 
 abbrev pub thread_in : ℕ → ThreadWord
 thread_in w =
@@ -67,17 +76,25 @@ thread_in w =
       held = w / 8 % 2 == 1;
       mode = mode_of (w / 16 % 2 == 1);
       domain = w / 32 % 8;
+      aborted = w / 256 % 2 == 1;
+      suspended = w / 512 % 2 == 1;
+      note = note_of (w / 1024 % 131072);
       number = w / 68719476736;
     }
 
+-- no site without the bit that one is noted
+abbrev pub is_note : ℕ → Bool
+is_note n = (n % 2 == 1) || (n == 0)
+
 abbrev pub is_thread : ℕ → Bool
-is_thread w = nat_lt (w % 4) 3 && (w / 256 % 268435456 == 0)
+is_thread w = nat_lt (w % 4) 3 && (w / 134217728 % 512 == 0) && is_note (w / 1024 % 131072)
 
 abbrev pub thread_of : ℕ → Option ThreadWord
 thread_of w = if is_thread w then Some (thread_in w) else None
 
 pub record FitsThread (t : ThreadWord) : Type 0 where
   pub domain : t.domain < 8
+  pub note : IfSome t.note (λ site. site < 65536)
   pub number : t.number < 268435456
 
 -- A domain: 0 initialised, 1 a writer, 2 to 8 the readers, 9 to 28 the version, 36 to 63 the step number. All others are zero.
@@ -106,7 +123,7 @@ pub record FitsDomain (d : DomWord) : Type 0 where
   pub version : d.version < 1048576
   pub number : d.number < 268435456
 
--- A cell: 0 the turn, 1 to 8 ready threads, 9 to 16 running ones, 17 to 35 what is owed (always 0), 36 to 63 the step number.
+-- A cell: 0 the turn, 1 to 8 ready threads, 9 to 16 running ones, 17 to 35 marks that are owed, 36 to 63 the step number.
 
 abbrev pub packed_cell : CellWord → ℕ
 packed_cell c = bit c.turn + 2 * c.ready + 512 * c.running + 131072 * c.owed + 68719476736 * c.number

@@ -4,7 +4,6 @@ use Rattle.std.specs.Prelude.{◌&&◌, nat_lt, if◌then◌else◌, IsTrue}
 use Rattle.std.proofs.lemmas.Bool.Decides.{nat_tests}
 use Rattle.std.proofs.lemmas.List.{length-set}
 use Rattle.um_base.specs.declared.act.Act.{Act}
-use Rattle.um_base.specs.declared.act.SetSaid.{SetSaid}
 use Rattle.um_words.specs.declared.fine.FineAct.{FineAct}
 use Rattle.um_words.specs.declared.fine.Unseen.{Unseen}
 use Rattle.um_words.specs.declared.row_word.RowWord.{RowWord}
@@ -12,7 +11,7 @@ use Rattle.um_words.specs.Bits.{bit, number_of}
 use Rattle.um_words.specs.BitLists.{length-bits, number-small}
 use Rattle.um_words.specs.Packed.{FitsRow, packed_row, row_of, stage_code}
 use Rattle.um_words.specs.Inverse.{row-digits, bit-small, stage-small}
-use Rattle.um_words.specs.Rows.{is_live, is_free, is_cleaning, has, permitted, vacated, is_last, gone_stage, given_to, claimed, dropped, published, after_set, row_takes_act, row_takes_unseen, row_takes, row_after_act, row_after_unseen, row_after, counted_row}
+use Rattle.um_words.specs.Rows.{is_live, is_free, is_cleaning, has, permitted, vacated, is_last, gone_stage, given_to, claimed, dropped, row_takes_act, row_takes_unseen, row_takes, row_after_act, row_after_unseen, row_after, counted_row}
 use Rattle.um_words.specs.Steps.{RowStep}
 
 below : (a : ℕ) (b c : Bool) → IsTrue (nat_lt a 127 && b && c) → a < 127

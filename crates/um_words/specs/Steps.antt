@@ -11,7 +11,8 @@ use Rattle.um_words.specs.Threads.{ThreadMay}
 use Rattle.um_words.specs.Domains.{DomainMay}
 use Rattle.um_words.specs.Cells.{CellMay}
 
--- the cells: sites 168 to 295 those of the objects by row, 296 to 303 those of the domains, and then those of memory, of the heap and of the scheduler
+-- the cells: sites 168 to 295 those of the objects by row, 296 to 303 those of the domains, and then those of memory, of the heap, of the scheduler,
+-- of the clock and of the joins
 abbrev pub cell_kind_at : ℕ → CellKind
 cell_kind_at site =
     if nat_lt site 296 then CellKind.Object
@@ -19,6 +20,8 @@ cell_kind_at site =
     else if site == 304 then CellKind.Memory
     else if site == 305 then CellKind.Heap
     else if site == 306 then CellKind.Scheduler
+    else if site == 307 then CellKind.Clock
+    else if site == 308 then CellKind.Join
     else CellKind.Unused
 
 -- sites 0 to 127 are the rows, 128 to 159 the threads by index, 160 to 167 the domains, and then come the cells

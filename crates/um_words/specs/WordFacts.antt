@@ -1,8 +1,9 @@
 -- A step raises the step number of its word by one.
 use Rattle.std.proofs.Common.{◌≡◌, ℕ, ◌+◌, ◌<◌, ◌≤◌, ◌/◌, ◌%◌, Bool, true, false, not, Some, None, refl, sym, ap, ◌∙◌, arith, subst}
-use Rattle.std.specs.Prelude.{◌&&◌, nat_lt, if◌then◌else◌, IsTrue}
+use Rattle.std.specs.Prelude.{◌==◌, ◌&&◌, nat_lt, if◌then◌else◌, IfSome, IsTrue}
 use Rattle.std.proofs.lemmas.Bool.Decides.{nat_tests}
 use Rattle.um_base.specs.declared.act.Act.{Act}
+use Rattle.um_machine.specs.State.{is_living}
 use Rattle.um_words.specs.declared.fine.FineAct.{FineAct}
 use Rattle.um_words.specs.declared.fine.More.{More}
 use Rattle.um_words.specs.declared.fine.Unseen.{Unseen}
@@ -13,9 +14,9 @@ use Rattle.um_words.specs.declared.cell_word.CellWord.{CellWord}
 use Rattle.um_words.specs.declared.kind.CellKind.{CellKind}
 use Rattle.um_words.specs.Bits.{bit}
 use Rattle.um_words.specs.CellActs.{is_resume}
-use Rattle.um_words.specs.Packed.{packed_thread, thread_in, is_thread, packed_domain, domain_in, is_domain, packed_cell, cell_of}
+use Rattle.um_words.specs.Packed.{FitsThread, note_of, packed_thread, thread_in, is_thread, packed_domain, domain_in, is_domain, packed_cell, cell_of}
 use Rattle.um_words.specs.Inverse.{thread-number, domain-number, cell-number, cell-turn}
-use Rattle.um_words.specs.Threads.{thread_takes_act, thread_takes, thread_after_act, thread_after_unseen, thread_after, counted_thread}
+use Rattle.um_words.specs.Threads.{ThreadMay, thread_takes_act, thread_takes_unseen, thread_takes, flagged, thread_after_act, thread_after_unseen, thread_after, counted_thread}
 use Rattle.um_words.specs.Domains.{writes, domain_takes_act, domain_takes_unseen, domain_takes, domain_after_act, domain_after_unseen, domain_after, counted_domain}
 use Rattle.um_words.specs.Steps.{cell_kind_at, kind_at, number_in, number, ThreadStep, DomainStep, CellStep, StepIn, WordMay}
 use Rattle.um_words.specs.RowFacts.{row-counts}
@@ -38,30 +39,55 @@ said-is false all said e = absurd (cc)
 
 pub record KeepsThread (w z : ThreadWord) : Type 0 where
   pub domain : z.domain < 8
+  pub note : IfSome z.note (λ site. site < 65536)
   pub number : z.number ≡ w.number
 
-module _ (w : ThreadWord) (domain : w.domain < 8) where
-  thread-act : (more : More) (act : Act) → IsTrue (thread_takes_act w more act) → KeepsThread w (thread_after_act w more act)
-  thread-act more (Act.DomMove d who reply) h = record { domain = second (not w.held) d 8 h; number = refl }
-  thread-act more (Act.Start who) h = record { domain = grind (arith, nat_tests); number = refl }
-  thread-act more act h = record { domain = domain; number = refl }
+-- a word's note is a site
+note-read : (n : ℕ) → n < 131072 → IfSome (note_of n) (λ site. site < 65536)
+note-read n h = elim (n % 2 == 1) as (λ b. IfSome (if b then Some (n / 2) else None) (λ site. site < 65536)) [ true ↦ omega arith | false ↦ tt ]
 
-  thread-unseen : (unseen : Unseen) → KeepsThread w (thread_after_unseen w unseen)
-  thread-unseen Unseen.Hold = record { domain = domain; number = refl }
-  thread-unseen Unseen.LetGo = record { domain = domain; number = refl }
-  thread-unseen unseen = record { domain = domain; number = refl }
+module _ (w : ThreadWord) (domain : w.domain < 8) (note : IfSome w.note (λ site. site < 65536)) where
+  thread-flagged : (z : ThreadWord) → KeepsThread w z → KeepsThread w (flagged w z)
+  thread-flagged z k = elim (is_living w.life) as (λ b. KeepsThread w (if b then z else w)) [ true ↦ k | false ↦ record { domain = domain; note = note; number = refl } ]
+
+  thread-act : (more : More) (act : Act) → IsTrue (thread_takes_act w more act) → KeepsThread w (thread_after_act w more act)
+  thread-act more (Act.DomMove d who reply) h = record { domain = second (not w.held) d 8 h; note = note; number = refl }
+  thread-act more (Act.Start who) h = record { domain = grind (arith, nat_tests); note = tt; number = refl }
+  thread-act more Act.Exit h = record { domain = domain; note = tt; number = refl }
+  thread-act more (Act.Fatal reason cause) h = record { domain = domain; note = tt; number = refl }
+  thread-act more Act.Killed h = record { domain = domain; note = tt; number = refl }
+  thread-act more (Act.Answered reply) h = record { domain = domain; note = tt; number = refl }
+  thread-act more (Act.Abort who done) h = thread-flagged (record w { aborted = true }) (record { domain = domain; note = note; number = refl })
+  thread-act more (Act.Suspend who done) h = thread-flagged (record w { suspended = true }) (record { domain = domain; note = note; number = refl })
+  thread-act more (Act.Continue who done) h = thread-flagged (record w { suspended = false }) (record { domain = domain; note = note; number = refl })
+  thread-act more act h = record { domain = domain; note = note; number = refl }
+
+  thread-unseen : (unseen : Unseen) → IsTrue (thread_takes_unseen w unseen) → KeepsThread w (thread_after_unseen w unseen)
+  thread-unseen Unseen.Hold h = record { domain = domain; note = note; number = refl }
+  thread-unseen Unseen.LetGo h = record { domain = domain; note = note; number = refl }
+  thread-unseen (Unseen.Note site) h = record { domain = domain; note = grind (arith, nat_tests); number = refl }
+  thread-unseen unseen h = record { domain = domain; note = note; number = refl }
 
   pub thread-keeps : (act : FineAct) → IsTrue (thread_takes w act) → KeepsThread w (thread_after w act)
   thread-keeps (FineAct.Shown event more) h = thread-act more event.act h
-  thread-keeps (FineAct.Unseen unseen) h = thread-unseen unseen
+  thread-keeps (FineAct.Unseen unseen) h = thread-unseen unseen h
+
+-- what a step leaves of a word that fits its bits fits them too
+pub thread-left : (w z : ThreadWord) (act : FineAct) → FitsThread w → ThreadMay w act z → FitsThread z
+thread-left w z act f m =
+    let k = thread-keeps w f.domain f.note act m.takes in
+    let r = m.room in
+    let n = k.number in
+    subst FitsThread (sym m.leaves) (record { domain = k.domain; note = k.note; number = omega arith })
 
 thread-counts : (w : ℕ) (act : FineAct) (next : ℕ) → ThreadStep w act next → next / 68719476736 ≡ w / 68719476736 + 1
 thread-counts w act next s =
     let is = said-is (is_thread w) (thread_in w) s.found s.reads in
     let small : s.found.domain < 8 = subst (λ (t : ThreadWord). t.domain < 8) is (omega arith) in
-    let k = thread-keeps s.found small act s.may.takes in
+    let noted : IfSome s.found.note (λ site. site < 65536) = subst (λ (t : ThreadWord). IfSome t.note (λ site. site < 65536)) is (note-read (w / 1024 % 131072) (omega arith)) in
+    let k = thread-keeps s.found small noted act s.may.takes in
     let z = counted_thread (thread_after s.found act) in
-    ap (λ x. x / 68719476736) (s.is ∙ ap packed_thread s.may.leaves) ∙ thread-number z k.domain
+    ap (λ x. x / 68719476736) (s.is ∙ ap packed_thread s.may.leaves) ∙ thread-number z k.domain k.note
     ∙ ap (λ x. x + 1) (k.number ∙ ap (λ (t : ThreadWord). t.number) (sym is))
 
 -- Domains.
@@ -131,6 +157,9 @@ module _ (w : CellWord) (ready : w.ready < 256) (running : w.running < 256) (owe
   cell-unseen (Unseen.Wake who b) h = cell-ready b (grind (arith, nat_tests))
   cell-unseen (Unseen.Park who b) h = cell-less b (second (nat_lt 0 w.running) w.ready 32 h)
   cell-unseen (Unseen.Add who) h = cell-ready true (grind (arith, nat_tests))
+  cell-unseen (Unseen.Cut who b) h = cell-ready b (grind (arith, nat_tests))
+  cell-unseen Unseen.Owe h = record { ready = ready; running = running; owed = grind (arith, nat_tests); turn = refl; number = refl }
+  cell-unseen Unseen.Paid h = record { ready = ready; running = running; owed = omega arith; turn = refl; number = refl }
   cell-unseen Unseen.Done h = record { ready = ready; running = omega arith; owed = owed; turn = refl; number = refl }
   cell-unseen unseen h = absurd (cc)
 
@@ -144,6 +173,8 @@ module _ (w : CellWord) (ready : w.ready < 256) (running : w.running < 256) (owe
   cell-keeps CellKind.Memory act h = cell-same
   cell-keeps CellKind.Heap act h = cell-same
   cell-keeps CellKind.Scheduler act h = cell-scheduler act h
+  cell-keeps CellKind.Clock act h = cell-same
+  cell-keeps CellKind.Join act h = cell-same
   cell-keeps CellKind.Unused act h = cell-same
 
 -- what a step leaves of the word that it found

@@ -12,7 +12,7 @@ pub struct CellWord {
     pub ready: u8,
     /// How many threads processors run.
     pub running: u8,
-    /// A count that no step changes: it is 0 on the board of an image. Below 2^19.
+    /// How many marks are owed, below 2^19.
     pub owed: u32,
     /// How many steps the word has taken, below 2^28.
     pub number: u32,

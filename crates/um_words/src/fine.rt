@@ -1,6 +1,6 @@
 //! What a processor does to a site in one step.
 
-use um_base::{Event, Mode, ThreadIx};
+use um_base::{Event, Mode, Row, ThreadIx, Timeout};
 
 /// What a site's own step needs beside the event.
 #[derive(Clone, Copy)]
@@ -12,6 +12,10 @@ pub enum More {
     Strict(bool),
     /// The mode of a new thread, and its domain.
     Starts { mode: Mode, domain: u8 },
+    /// Whether the thread may read the address on which it waits, and how long it may wait.
+    Waits { allowed: bool, timeout: Timeout },
+    /// Whether the thread may read the address that it wakes, and whether it wakes all who wait there.
+    Wakes { allowed: bool, all: bool },
 }
 
 /// A step that no trace shows.
@@ -53,6 +57,37 @@ pub enum Unseen {
     Done,
     /// A thread's word is read.
     WordRead,
+    /// A mark is owed, which is armed next.
+    Owe,
+    /// A mark that was given is handled.
+    Paid,
+    /// A mark may be given from now on, once its deadline has come.
+    Settle,
+    /// A mark is given whose deadline has come.
+    Due,
+    /// What is looked for in a cell isn't there.
+    Void,
+    /// A thread's word notes the site of the cell in which its call may wait.
+    Note(u16),
+    /// A suspended thread at rest goes to sleep.
+    Sleep,
+    /// A thread that sleeps is taken, to get ready.
+    Rouse(ThreadIx),
+    /// Nobody joins a thread any more.
+    Shut(ThreadIx),
+    /// A thread that is started next may be joined.
+    Unshut(ThreadIx),
+    /// A thread that was cut gets ready. `ready` says whether it then joins the ready list.
+    Cut { who: ThreadIx, ready: bool },
+}
+
+/// For what a deadline was armed.
+#[derive(Clone, Copy, PartialEq, Eq)]
+pub enum Mark {
+    /// For a thread, which waits in the cell of this site.
+    Thread { who: ThreadIx, site: u16 },
+    /// For the timer of a row.
+    Timer(Row),
 }
 
 /// What a step does: an event of the trace, or a step that no trace shows.

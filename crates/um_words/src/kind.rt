@@ -6,6 +6,9 @@ ghost use Rattle.um_words.specs.Steps.{cell_kind_at, kind_at, number, number_in}
 /// The greatest step number of every word but a row's. A word that has reached it takes no step.
 pub(crate) const LAST: u32 = 0xfff_ffff;
 
+/// How many sites there are: rows, threads, domains and cells.
+pub const SITES: u16 = 309;
+
 /// What a cell keeps.
 #[derive(Clone, Copy, PartialEq, Eq)]
 pub enum CellKind {
@@ -14,6 +17,8 @@ pub enum CellKind {
     Memory,
     Heap,
     Scheduler,
+    Clock,
+    Join,
     /// Nothing: it takes no step.
     Unused,
 }
@@ -29,6 +34,8 @@ impl CellKind {
             304 => CellKind::Memory,
             305 => CellKind::Heap,
             306 => CellKind::Scheduler,
+            307 => CellKind::Clock,
+            308 => CellKind::Join,
             _ => CellKind::Unused,
         }
     }

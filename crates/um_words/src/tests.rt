@@ -99,6 +99,42 @@ fn a_hold_keeps_a_doomed_threads_domain(rt: HostRuntime) {
     assert!(rt; begin.step(0x45) == Some(0x10_0000_0045));
 }
 
+/// A thread that is aborted is killed at its turn; where it is doomed or only suspended, its word is read.
+#[test]
+fn a_stopped_thread_begins_nothing(rt: HostRuntime) {
+    let abort = ThreadAct::Abort {
+        thread: FIRST,
+        who: SECOND,
+    };
+    assert!(rt; abort.step(0x41) == Some(0x10_0000_0141));
+    assert!(rt; abort.step(0x40) == Some(0x10_0000_0040));
+    let begin = ThreadAct::Begin {
+        thread: FIRST,
+        script: 0,
+        line: 1,
+    };
+    assert!(rt; begin.step(0x141) == Some(0x10_0000_0142));
+    assert!(rt; begin.step(0x241) == Some(0x10_0000_0241));
+    assert!(rt; begin.step(0x345) == Some(0x10_0000_0345));
+    let resume = ThreadAct::Continue {
+        thread: SECOND,
+        who: FIRST,
+    };
+    assert!(rt; resume.step(0x241) == Some(0x10_0000_0041));
+}
+
+/// The site that a thread's word notes, until its call's reply.
+#[test]
+fn a_note_ends_with_its_call(rt: HostRuntime) {
+    assert!(rt; ThreadAct::Note(168).step(0x41) == Some(0x10_0005_4441));
+    assert!(rt; ThreadAct::Note(309).step(0x41).is_none());
+    let reply = ThreadAct::Answered {
+        thread: FIRST,
+        reply: Reply::Num(0),
+    };
+    assert!(rt; reply.step(0x5_4441) == Some(0x10_0000_0041));
+}
+
 /// A claim to read, a claim to write and the edit that ends it.
 #[test]
 fn an_edit_ends_its_claim(rt: HostRuntime) {
@@ -127,7 +163,10 @@ fn words_keep_their_fields_by_bits(rt: HostRuntime) {
     assert!(rt; row.claims == 127 && row.number == 0xf_ffff && row.stage == Stage::Cleaning);
     assert!(rt; row.permissions.has(31) && !row.permissions.has(32));
     assert!(rt; row.pack() == 0xffff_ffff_ffff_ffff);
-    assert!(rt; ThreadWord::unpack(0x3).is_none() && ThreadWord::unpack(0x100).is_none());
+    assert!(rt; ThreadWord::unpack(0x3).is_none() && ThreadWord::unpack(0x800_0000).is_none());
+    assert!(rt; ThreadWord::unpack(0x800).is_none() && ThreadWord::unpack(0x400).is_some());
+    let stopped = ThreadWord::unpack(0x5_4741);
+    assert!(rt; matches!(stopped, Some(t) if t.aborted && t.suspended && t.note == Some(168)));
     assert!(rt;
         ThreadWord::unpack(0x8_0000_0000).is_none() && ThreadWord::unpack(0x10_0000_00fe).is_some()
     );

@@ -1,17 +1,17 @@
 //! What is asked of the word of a thread index, and the word that it leaves: the only code that steps a thread's word.
 
-ghost use Rattle.std.specs.Prelude.{◌≡◌, ◌<◌, ◌&&◌, false, true, not, IfSome, IsTrue, MatchOption};
+ghost use Rattle.std.specs.Prelude.{◌≡◌, ◌<◌, ◌&&◌, ◌||◌, false, true, not, IfSome, IsTrue, MatchOption};
 ghost use Rattle.um_base.specs.declared.limits.TheConstants.{DOMAINS};
 ghost use Rattle.um_machine.specs.State.{is_living};
 ghost use Rattle.um_words.specs.{
   Packed.{is_thread, thread_in},
   Steps.{ThreadStep},
-  ThreadActs.{thread_act_at, thread_event, thread_takes_at},
-  Threads.{ThreadMay, thread_after, thread_takes},
+  ThreadActs.{event_unless_stopped, thread_act_at, thread_event, thread_takes_at},
+  Threads.{ThreadMay, ended_word, thread_after, thread_takes},
 };
 
 use crate::events::{checked, shown};
-use crate::kind::LAST;
+use crate::kind::{LAST, SITES};
 use crate::next_word::next_word;
 use crate::thread_word::ThreadWord;
 use um_base::{Act, Addr, Cause, DOMAINS, Errno, Event, Kind, Mode, Reply, ThreadIx, Want};
@@ -20,13 +20,13 @@ use um_machine::Life;
 /// What is asked of the word of a thread index, and by which thread.
 #[derive(Clone, Copy)]
 pub enum ThreadAct {
-    /// To begin a line, unless the thread is doomed: then its word is read instead.
+    /// To begin a line. An aborted thread is killed instead; where it is doomed, or only suspended, its word is read.
     Begin {
         thread: ThreadIx,
         script: u8,
         line: u16,
     },
-    /// To end after the last line, unless the thread is doomed: then its word is read instead.
+    /// To end after the last line. Where it is stopped, the same comes instead.
     Exit {
         thread: ThreadIx,
     },
@@ -67,6 +67,23 @@ pub enum ThreadAct {
     EnterUser {
         thread: ThreadIx,
     },
+    Abort {
+        thread: ThreadIx,
+        who: ThreadIx,
+    },
+    Suspend {
+        thread: ThreadIx,
+        who: ThreadIx,
+    },
+    Continue {
+        thread: ThreadIx,
+        who: ThreadIx,
+    },
+    Killed {
+        thread: ThreadIx,
+    },
+    /// To note the site of the cell in which the thread's call may wait.
+    Note(u16),
     /// To keep the thread's domain.
     Hold,
     /// To let its domain change again.
@@ -76,14 +93,40 @@ pub enum ThreadAct {
 }
 
 impl ThreadWord {
-    /// Whether it may begin a line, or end by itself.
-    pub fn may_begin(&self) -> bool
-        ensures { result ≡ (is_living self.now.life && not self.now.doomed) }
+    pub fn is_living(&self) -> bool
+        ensures { result ≡ is_living self.now.life }
     {
-        match self.life {
-            Life::Living => !self.doomed,
-            _ => false,
+        matches!(self.life, Life::Living)
+    }
+
+    /// Whether it takes what comes of a begin or an exit.
+    fn takes_turn(&self) -> bool
+        ensures { result ≡ (self.now.doomed || (self.now.suspended && not self.now.aborted) || is_living self.now.life) }
+    {
+        self.doomed || (self.suspended && !self.aborted) || self.is_living()
+    }
+
+    /// Of a thread that would begin or end, the event, by this word, which the step leaves.
+    fn turn(&self, thread: ThreadIx, act: Act) -> Option<Event>
+        ensures { result ≡ event_unless_stopped self.now thread act }
+    {
+        if self.doomed {
+            None
+        } else if self.aborted {
+            shown(thread, Act::Killed)
+        } else if self.suspended {
+            None
+        } else {
+            shown(thread, act)
         }
+    }
+
+    /// Its life ends, and its call's note.
+    fn end(&mut self)
+        ensures { self.new ≡ ended_word self.old }
+    {
+        self.life = Life::Ended;
+        self.note = None;
     }
 }
 
@@ -94,8 +137,8 @@ impl ThreadAct {
         ensures { result ≡ thread_takes word.now (thread_act_at word.now self.now) }
     {
         match self {
-            ThreadAct::Begin { .. } => word.doomed || word.may_begin(),
-            ThreadAct::Exit { .. } => word.doomed || word.may_begin(),
+            ThreadAct::Begin { .. } => word.takes_turn(),
+            ThreadAct::Exit { .. } => word.takes_turn(),
             ThreadAct::Miss { .. } => true,
             ThreadAct::Answered { .. } => true,
             ThreadAct::Fatal { .. } => true,
@@ -103,6 +146,11 @@ impl ThreadAct {
             ThreadAct::DomMove { domain, .. } => !word.held && (*domain as usize) < DOMAINS,
             ThreadAct::Start { domain, .. } => (*domain as usize) < DOMAINS,
             ThreadAct::EnterUser { .. } => true,
+            ThreadAct::Abort { .. } => true,
+            ThreadAct::Suspend { .. } => true,
+            ThreadAct::Continue { .. } => true,
+            ThreadAct::Killed { .. } => word.is_living() && word.aborted,
+            ThreadAct::Note(site) => *site < SITES,
             ThreadAct::Hold => !word.held,
             ThreadAct::LetGo => word.held,
             ThreadAct::ReadWord => true,
@@ -117,23 +165,35 @@ impl ThreadAct {
         ensures word { word.new ≡ thread_after word.old (thread_act_at word.old self.now) }
     {
         match self {
-            ThreadAct::Begin { .. } => {}
+            ThreadAct::Begin { .. } => {
+                if word.aborted && !word.doomed {
+                    word.end();
+                }
+            }
             ThreadAct::Exit { .. } => {
-                if !word.doomed {
-                    word.life = Life::Ended;
+                if !word.doomed && (word.aborted || !word.suspended) {
+                    word.end();
                 }
             }
             ThreadAct::Miss { .. } => {}
-            ThreadAct::Answered { .. } => {}
-            ThreadAct::Fatal { .. } => word.life = Life::Ended,
+            ThreadAct::Answered { .. } => word.note = None,
+            ThreadAct::Fatal { .. } => word.end(),
             ThreadAct::Doom { .. } => word.doomed = true,
             ThreadAct::DomMove { domain, .. } => word.domain = *domain,
             ThreadAct::Start { mode, domain, .. } => {
                 word.life = Life::Living;
                 word.mode = *mode;
                 word.domain = *domain;
+                word.aborted = false;
+                word.suspended = false;
+                word.note = None;
             }
             ThreadAct::EnterUser { .. } => word.mode = Mode::User,
+            ThreadAct::Abort { .. } => word.aborted = word.aborted || word.is_living(),
+            ThreadAct::Suspend { .. } => word.suspended = word.suspended || word.is_living(),
+            ThreadAct::Continue { .. } => word.suspended = word.suspended && !word.is_living(),
+            ThreadAct::Killed { .. } => word.end(),
+            ThreadAct::Note(site) => word.note = Some(*site),
             ThreadAct::Hold => word.held = true,
             ThreadAct::LetGo => word.held = false,
             ThreadAct::ReadWord => {}
@@ -177,18 +237,8 @@ impl ThreadAct {
                 thread,
                 script,
                 line,
-            } => {
-                if next.doomed {
-                    return None;
-                }
-                shown(thread, Act::Begin { script, line })
-            }
-            ThreadAct::Exit { thread } => {
-                if next.doomed {
-                    return None;
-                }
-                shown(thread, Act::Exit)
-            }
+            } => next.turn(thread, Act::Begin { script, line }),
+            ThreadAct::Exit { thread } => next.turn(thread, Act::Exit),
             ThreadAct::Miss {
                 thread,
                 addr,
@@ -211,6 +261,20 @@ impl ThreadAct {
             } => shown(thread, Act::DomMove { domain, who, reply }),
             ThreadAct::Start { thread, who, .. } => shown(thread, Act::Start { who }),
             ThreadAct::EnterUser { thread } => shown(thread, Act::EnterUser),
+            ThreadAct::Abort { thread, who } => {
+                let done = next.is_living();
+                shown(thread, Act::Abort { who, done })
+            }
+            ThreadAct::Suspend { thread, who } => {
+                let done = next.is_living();
+                shown(thread, Act::Suspend { who, done })
+            }
+            ThreadAct::Continue { thread, who } => {
+                let done = next.is_living();
+                shown(thread, Act::Continue { who, done })
+            }
+            ThreadAct::Killed { thread } => shown(thread, Act::Killed),
+            ThreadAct::Note(_) => None,
             ThreadAct::Hold => None,
             ThreadAct::LetGo => None,
             ThreadAct::ReadWord => None,

@@ -13,8 +13,9 @@ use Rattle.um_machine.specs.declared.pending.Pending.{Pending}
 use Rattle.um_machine.specs.State.{State, thread_at, is_living, is_started, instruction_at}
 use Rattle.um_machine.specs.Order.{Steps, to_thread}
 use Rattle.um_machine.specs.Table.{after, pays}
-use Rattle.um_machine.specs.Run.{none_due, is_free_for, Offers, Runs, IsRun, MayChoose, MayClean, NoPairsOf, opening}
-use Rattle.um_worked_runs.specs.Evaluate.{Way, goes, skips, begins, exits, cleans, recycles, Choice, Offer, offer_if, next_offer, later_offer, unless_due, rests, is_at_rest, offered, numbers, all_rows, is_cleaner, may_clean, no_pairs_of, may_reserve, may_choose, Course, course_by, course, run_of}
+use Rattle.um_machine.specs.Joins.{is_ending}
+use Rattle.um_machine.specs.Run.{none_due, may_go, is_tending, is_free_for, Offers, Runs, IsRun, MayChoose, MayClean, NoPairsOf, opening}
+use Rattle.um_worked_runs.specs.Evaluate.{Way, goes, skips, begins, exits, stops, leaves, tends, Choice, Offer, offer_if, next_offer, later_offer, unless_due, rests, is_at_rest, is_at_stop, offered, numbers, all_rows, is_cleaner, may_clean, no_pairs_of, may_reserve, may_choose, Course, course_by, course, run_of}
 
 -- an offer is one that the machine makes
 abbrev pub OffersIt : State → ℕ → Offer → Type 0
@@ -39,7 +40,7 @@ pending-parts : (steps : Steps) (b : Bool) → rests steps b ≡ true → (steps
 pending-parts [] b h = (refl, h)
 pending-parts (p ∷ rest) b h = absurd (false≢true h)
 
-rest-parts : (s : State) (t : ℕ) → IsTrue (is_at_rest (thread_at s t)) → ((thread_at s t).pending ≡ []) × IsTrue (is_living (thread_at s t).life) × (not (thread_at s t).doomed ≡ true)
+rest-parts : (s : State) (t : ℕ) → IsTrue (is_at_rest (thread_at s t)) → ((thread_at s t).pending ≡ []) × IsTrue (is_living (thread_at s t).life) × IsTrue (may_go (thread_at s t))
 rest-parts s t h =
     let both = pending-parts _ _ h in
     let lives = and_parts _ _ both.1 in (both.0, lives.0, lives.1)
@@ -56,13 +57,17 @@ exit-sound : (s : State) (t : ℕ) (b : Bool) → (is_at_rest (thread_at s t) &&
 exit-sound s t false h = tt
 exit-sound s t true h = let both = and_parts _ _ h in let r = rest-parts s t both.0 in Offers.exits r.0 r.1 r.2 (no-instr _ both.1)
 
-clean-sound : (s : State) (t who : ℕ) (b : Bool) → is_started (thread_at s t).life ≡ b → OffersIt s t (offer_if b (Pending.CleanPair (to_thread who), (thread_at s t).pending))
-clean-sound s t who false h = tt
-clean-sound s t who true h = Offers.tends refl h
+stop-sound : (s : State) (t : ℕ) (b : Bool) → is_at_stop (thread_at s t) ≡ b → OffersIt s t (offer_if b (Pending.Killed, []))
+stop-sound s t false h = tt
+stop-sound s t true h = let both = pending-parts _ _ h in let lives = and_parts _ _ both.1 in Offers.stops both.0 lives.0 lives.1
 
-recycle-sound : (s : State) (t : ℕ) (b : Bool) → is_started (thread_at s t).life ≡ b → OffersIt s t (offer_if b (Pending.Recycle, (thread_at s t).pending))
-recycle-sound s t false h = tt
-recycle-sound s t true h = Offers.tends refl h
+leave-sound : (s : State) (t : ℕ) (b : Bool) → is_ending (thread_at s t) ≡ b → OffersIt s t (offer_if b (Pending.Left, (thread_at s t).pending))
+leave-sound s t false h = tt
+leave-sound s t true h = Offers.leaves h
+
+tend-sound : (s : State) (t : ℕ) (p : Pending) (b : Bool) → (is_tending p && is_started (thread_at s t).life) ≡ b → OffersIt s t (offer_if b (p, (thread_at s t).pending))
+tend-sound s t p false h = tt
+tend-sound s t p true h = let both = and_parts _ _ h in Offers.tends both.0 both.1
 
 -- what is offered by a way, the machine offers
 pub offered-sound : (s : State) (t : ℕ) (way : Way) → OffersIt s t (offered s t way)
@@ -70,8 +75,9 @@ offered-sound s t goes = next-sound s t (thread_at s t).pending refl
 offered-sound s t skips = skip-sound s t (none_due (thread_at s t)) refl
 offered-sound s t begins = begin-sound s t _ refl
 offered-sound s t exits = exit-sound s t _ refl
-offered-sound s t (cleans who) = clean-sound s t who (is_started (thread_at s t).life) refl
-offered-sound s t recycles = recycle-sound s t (is_started (thread_at s t).life) refl
+offered-sound s t stops = stop-sound s t _ refl
+offered-sound s t leaves = leave-sound s t _ refl
+offered-sound s t (tends p) = tend-sound s t p _ refl
 
 -- the first number, or one behind it
 pub first-or-later : (p : ℕ → Bool) (b : Bool) {i k : ℕ} → (i ≡ k) ⊎ (i < k) → p i ≡ b → (i < k → p k ≡ b) → p k ≡ b
@@ -127,6 +133,13 @@ chosen-sound s t x Pending.Resume h = told-sound (thread_at s t).told refl h whe
   told-sound : (o : _) → (thread_at s t).told ≡ o → IsTrue (is_some o) → MayChoose s t x Pending.Resume
   told-sound None e h2 = absurd (false≢true h2)
   told-sound (Some told) e h2 = (told, e)
+chosen-sound s t x (Pending.ClearInit a) h = h
+chosen-sound s t x (Pending.Join who timeout) h = h
+chosen-sound s t x Pending.Left h = h
+chosen-sound s t x Pending.Tick h = h
+chosen-sound s t x (Pending.TimeOut who) h = h
+chosen-sound s t x Pending.Expire h = h
+chosen-sound s t x (Pending.Cut who) h = h
 chosen-sound s t x _ h = tt
 
 -- what a choice comes to, where what goes on from there is a run

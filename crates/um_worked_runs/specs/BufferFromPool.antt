@@ -48,6 +48,7 @@ image =
           ∷ record { name = codes "sa"; kind = Kind.ThreadStack; addr = at 0x20080000; public = false; setup = Setup.ThreadStack (range 0x20080000 64) 64 } ∷ [];
       boots = record { thread = row 0; stack = row 1; script = 0; mode = Mode.User; priority = pos 0; domain = 0; pool = Some 0; grants = [] } ∷ [];
       scripts = script_0 ∷ [];
+      futexes = [];
     }
 
 -- which thread makes each step, and which one
@@ -107,6 +108,8 @@ is_lawful = record {
   boot_threads = refl;
   boot_stacks = refl;
   scripts = refl;
+  futexes = refl;
+  futexes_apart = refl;
   light = le_by_compare (weight image) 400000 tt;
 }
 

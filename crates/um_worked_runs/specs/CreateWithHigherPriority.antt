@@ -55,6 +55,7 @@ image =
       boots = record { thread = row 0; stack = row 1; script = 0; mode = Mode.User; priority = pos 0; domain = 0; pool = None; grants = row 2 ∷ row 3 ∷ row 4 ∷ [] } ∷ [];
       scripts = script_0
           ∷ script_1 ∷ [];
+      futexes = [];
     }
 
 -- which thread makes each step, and which one
@@ -111,6 +112,8 @@ is_lawful = record {
   boot_threads = refl;
   boot_stacks = refl;
   scripts = refl;
+  futexes = refl;
+  futexes_apart = refl;
   light = le_by_compare (weight image) 400000 tt;
 }
 

@@ -1,6 +1,7 @@
 -- What the closing dump shows of a state, as values.
-use Rattle.std.specs.Prelude.{ℕ, zero, suc, ◌+◌, ◌/◌, Bool, true, false, ◌==◌, not, nat_lt, List, [], ◌∷◌, ◌++◌, length, map, filter, take, drop, Option, Some, None, ℤ, position, sum}
+use Rattle.std.specs.Prelude.{ℕ, zero, suc, ◌+◌, ◌/◌, Bool, true, false, ◌==◌, not, nat_lt, if◌then◌else◌, List, [], ◌∷◌, ◌++◌, length, map, filter, take, drop, Option, Some, None, ℤ, position, sum}
 use Rattle.std.specs.List.{list_all, list_any}
+use Rattle.um_base.specs.declared.ask.Ask.{Ask}
 use Rattle.um_base.specs.declared.ask.Waiter.{Waiter}
 use Rattle.um_base.specs.declared.image.Partition.{Partition}
 use Rattle.um_base.specs.declared.limits.TheConstants.{STATIC_THREADS, PARTITION_AREA, STACK_AREA}
@@ -18,11 +19,13 @@ use Rattle.um_machine.specs.State.{State, thread_at, object_at, pair_at}
 use Rattle.um_machine.specs.Objects.{is_free, is_gone}
 use Rattle.um_worked_runs.specs.Evaluate.{all_rows, all_threads}
 
--- how a thread stands that was started: waits has the row of the object
+-- how a thread stands that was started: waits has the row of the object, joining the thread for whose end it waits, watching the address of the futex
 pub data Standing : Type 0 where
   doomed : Standing
   ended : Standing
   waits : ℕ → Standing
+  joining : ℕ → Standing
+  watching : ℕ → Standing
   ready : Standing
 
 -- the line of a thread
@@ -46,6 +49,8 @@ pub data Content : Type 0 where
   -- the owner's index and how often it locked
   locked : ℕ → ℕ → Content
   closed : Content
+  -- a timer's status, and whether it runs
+  timer : ℕ → Bool → Content
 
 -- the line of an object
 pub record ObjectLine : Type 0 where
@@ -68,13 +73,20 @@ pub record Dump : Type 0 where
 abbrev pub waits_here : ℕ → Object → Bool
 waits_here t o = list_any (λ (w : Waiter). w.thread.0 == t) o.waiters
 
-abbrev pub waits_or_ready : Option ℕ → Standing
-waits_or_ready None = ready
-waits_or_ready (Some x) = waits x
+-- what a thread asks that waits in a list
+abbrev pub asks_in : ℕ → List Waiter → Option Ask
+asks_in t [] = None
+asks_in t (w ∷ ws) = if w.thread.0 == t then Some w.ask else asks_in t ws
+
+abbrev pub waits_or_ready : Option ℕ → Option Ask → Standing
+waits_or_ready (Some x) ask = waits x
+waits_or_ready None (Some (Ask.Join who)) = joining who.0
+waits_or_ready None (Some (Ask.FutexWait a)) = watching a.0
+waits_or_ready None _ = ready
 
 abbrev pub living_standing : State → ℕ → Life → Standing
 living_standing s t Life.Ended = ended
-living_standing s t _ = waits_or_ready (position (waits_here t) s.objects)
+living_standing s t _ = waits_or_ready (position (waits_here t) s.objects) (asks_in t (s.joins ++ s.futexes))
 
 abbrev pub standing : State → ℕ → Thread → Standing
 standing s t me = elim me.doomed as (λ _. Standing) [ true ↦ doomed | false ↦ living_standing s t me.life ]
@@ -103,6 +115,8 @@ used_content (Contents.Mutex (Some owner) depth) = locked owner.0 depth
 used_content (Contents.Msgq q) = filled (length q.messages) q.most
 used_content (Contents.Stack s) = filled (length s.values) s.most
 used_content (Contents.Pipe p) = elim p.closed as (λ _. Content) [ true ↦ closed | false ↦ filled (length p.bytes) p.size ]
+used_content (Contents.Stopped status) = timer status false
+used_content (Contents.Running deadline) = timer 0 true
 used_content _ = nothing
 
 abbrev pub name_content : Contents → Content

@@ -26,6 +26,7 @@ image =
       objects = [];
       boots = [];
       scripts = [];
+      futexes = [];
     }
 
 -- which thread makes each step, and which one
@@ -67,6 +68,8 @@ is_lawful = record {
   boot_threads = refl;
   boot_stacks = refl;
   scripts = refl;
+  futexes = refl;
+  futexes_apart = refl;
   light = le_by_compare (weight image) 400000 tt;
 }
 

@@ -45,6 +45,7 @@ image =
           ∷ record { name = codes "s"; kind = Kind.Sem; addr = at 0x40000080; public = false; setup = Setup.Bare } ∷ [];
       boots = record { thread = row 0; stack = row 1; script = 0; mode = Mode.User; priority = pos 0; domain = 0; pool = None; grants = row 2 ∷ [] } ∷ [];
       scripts = script_0 ∷ [];
+      futexes = [];
     }
 
 -- which thread makes each step, and which one
@@ -94,6 +95,8 @@ is_lawful = record {
   boot_threads = refl;
   boot_stacks = refl;
   scripts = refl;
+  futexes = refl;
+  futexes_apart = refl;
   light = le_by_compare (weight image) 400000 tt;
 }
 

@@ -64,6 +64,7 @@ image =
           ∷ record { thread = row 2; stack = row 3; script = 1; mode = Mode.User; priority = pos 0; domain = 0; pool = None; grants = row 4 ∷ row 5 ∷ [] } ∷ [];
       scripts = script_0
           ∷ script_1 ∷ [];
+      futexes = [];
     }
 
 -- which thread makes each step, and which one
@@ -146,6 +147,8 @@ is_lawful = record {
   boot_threads = refl;
   boot_stacks = refl;
   scripts = refl;
+  futexes = refl;
+  futexes_apart = refl;
   light = le_by_compare (weight image) 400000 tt;
 }
 

@@ -84,6 +84,7 @@ image =
           ∷ script_1
           ∷ script_2
           ∷ script_3 ∷ [];
+      futexes = [];
     }
 
 -- which thread makes each step, and which one
@@ -212,6 +213,8 @@ is_lawful = record {
   boot_threads = refl;
   boot_stacks = refl;
   scripts = refl;
+  futexes = refl;
+  futexes_apart = refl;
   light = le_by_compare (weight image) 400000 tt;
 }
 

@@ -4,7 +4,7 @@
 ghost use Rattle.um_base.specs.Lawful.{IsLawful};
 
 use super::changed::changed;
-use super::{FIELDS, next};
+use super::{FIELDS, STOPPED, TIMED, next};
 use std::alloc::Global;
 use std::process::Abort;
 use std::slice::from_ref;
@@ -13,13 +13,13 @@ use um_audit::{Verdict, audit};
 use um_base::{Event, Image, ThreadIx};
 use um_image::read_image;
 use um_matrix::Matrix;
-use um_samples::{DOMAINS, OBJECTS, RACE};
+use um_samples::{DOMAINS, FUTEX_WAKE, OBJECTS, RACE};
 use um_trace::{DUMP_ROOM, LINE_ROOM, dump_text, line_text};
 
 /// The dump of a state.
 fn dump_of(alloc: Global, image: &Image, last: &Matrix<'_>) -> Result<Vec<u8>, Fail> {
     let mut dump = Vec::with_capacity(alloc, DUMP_ROOM)?;
-    dump_text(image, last, &mut dump);
+    dump_text(image, last.tables(), &mut dump);
     Ok(dump)
 }
 
@@ -248,6 +248,14 @@ fn run_agrees(rt: &impl Abort, alloc: Global, text: &str) -> Result<(), Fail> {
 #[test]
 fn audits_agree_with_the_judge(rt: HostRuntime) -> Result<(), Fail> {
     for text in [DOMAINS, OBJECTS, RACE] {
+        run_agrees(&rt, rt.alloc(), text)?;
+    }
+    Ok(())
+}
+
+#[test]
+fn audits_of_waits_that_end_agree_with_the_judge(rt: HostRuntime) -> Result<(), Fail> {
+    for text in [TIMED, STOPPED, FUTEX_WAKE] {
         run_agrees(&rt, rt.alloc(), text)?;
     }
     Ok(())

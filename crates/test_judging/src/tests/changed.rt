@@ -93,7 +93,28 @@ fn change(act: &mut Act, field: usize) -> bool {
         Act::Start { who } => change_nth!(field; who.0 ^= 1),
         Act::Fatal { reason, cause } => change_nth!(field; *reason ^= 1; *cause = cause_of(*cause)),
         Act::Doom { who } => change_nth!(field; who.0 ^= 1),
-        Act::Resume | Act::EnterUser | Act::Exit => return false,
+        Act::Arm { deadline } => change_nth!(field; *deadline ^= 1),
+        Act::Tick { now } => change_nth!(field; *now ^= 1),
+        Act::TimedOut { who } => change_nth!(field; who.0 ^= 1),
+        Act::Expire { addr, woken } => change_nth!(field; addr.0 ^= 1; *woken = woken_of(woken)),
+        Act::Abort { who, done } => change_nth!(field; who.0 ^= 1; *done = !*done),
+        Act::Suspend { who, done } => change_nth!(field; who.0 ^= 1; *done = !*done),
+        Act::Continue { who, done } => change_nth!(field; who.0 ^= 1; *done = !*done),
+        Act::Cut { who } => change_nth!(field; who.0 ^= 1),
+        Act::Join { who, answer } => change_nth!(field; who.0 ^= 1; *answer = answer_of(*answer)),
+        Act::Left { who, woken } => change_nth!(field; who.0 ^= 1; *woken = woken_of(woken)),
+        Act::FutexWait {
+            addr,
+            value,
+            answer,
+        } => change_nth!(field; addr.0 ^= 1; *value ^= 1; *answer = answer_of(*answer)),
+        Act::FutexWake {
+            addr,
+            answer,
+            woken,
+        } =>
+            change_nth!(field; addr.0 ^= 1; *answer = answer_of(*answer); *woken = woken_of(woken)),
+        Act::Resume | Act::EnterUser | Act::Exit | Act::Killed => return false,
     }
     true
 }

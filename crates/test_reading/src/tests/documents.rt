@@ -53,6 +53,26 @@ fn tells_the_first_fault(rt: HostRuntime) -> Result<(), Fail> {
             "object = [{name = \"rodata\", kind = \"mutex\", init = true}]",
             "BadName object[0].name",
         ),
+        (
+            "object = [{name = \"t\", kind = \"timer\", public = true}]",
+            "read",
+        ),
+        (
+            "object = [{name = \"t\", kind = \"timer\", size = 1}]",
+            "UnknownKey object[0].size",
+        ),
+        (
+            "object = [{name = \"t\", kind = \"timers\"}]",
+            "BadName object[0].kind",
+        ),
+        ("object = [{kind = \"timer\"}]", "MissingKey object[0].name"),
+        ("futex = []", "read"),
+        (
+            "futex = [{name = \"f\", partition = \"p\", offset = 0}]",
+            "read",
+        ),
+        ("futex = 0", "WrongType futex"),
+        ("futexes = []", "UnknownKey futexes"),
     ] {
         let whole = format!(in rt.alloc(); "{}{}", HEAD, text)?;
         let found = answer(rt.alloc(), whole.as_str())?;

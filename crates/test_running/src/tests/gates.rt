@@ -14,84 +14,111 @@ use um_samples::GRANT_RACE;
 /// How many turns the processors are held in all.
 const MOST_TURNS: u64 = 100_000_000;
 
-/// The step of a processor that is never held.
+/// The turn of a hold that isn't there.
 const NEVER: u64 = u64::MAX;
 
-/// A processor that is held once: at its call with this step, until the gate was called for the other processor with that one's step.
-#[derive(Drop)]
-struct Side {
-    step: u64,
-    other_step: u64,
-    /// How many calls have come for it.
-    calls: AtomicU64,
+/// A processor is held before its turn of this number, until the gate was called for another one with that one's turn.
+#[derive(Clone, Copy)]
+pub struct Hold {
+    pub cpu: u32,
+    pub turn: u64,
+    pub other: u32,
+    pub until: u64,
 }
 
-impl Side {
-    fn new(step: u64, other_step: u64) -> Side {
-        Side {
-            step,
-            other_step,
-            calls: AtomicU64::new(0),
+impl Hold {
+    /// No hold.
+    pub fn none() -> Hold {
+        Hold {
+            cpu: 0,
+            turn: NEVER,
+            other: 0,
+            until: 0,
         }
     }
-
-    /// Whether the gate was called for it with this step.
-    fn has_come(&self, step: u64) -> bool {
-        step < self.calls.load(Ordering::SeqCst)
-    }
 }
 
-/// A gate for two processors.
+/// A gate for up to three processors, which holds them up to four times.
 #[derive(Drop)]
 pub struct Meeting {
-    zero: Side,
-    one: Side,
+    holds: [Hold; 4],
+    /// For each processor, how many calls have come.
+    calls: [AtomicU64; 3],
     /// How many turns they were held.
     turns: AtomicU64,
 }
 
 impl Meeting {
-    fn new(zero: Side, one: Side) -> Meeting {
+    pub fn new(holds: [Hold; 4]) -> Meeting {
         Meeting {
-            zero,
-            one,
+            holds,
+            calls: [AtomicU64::new(0), AtomicU64::new(0), AtomicU64::new(0)],
             turns: AtomicU64::new(0),
         }
     }
 
-    /// A gate that holds processor 1 at its first call until processor 0 has come to this step.
-    pub fn behind(step: u64) -> Meeting {
-        Meeting::new(Side::new(NEVER, 0), Side::new(0, step))
+    /// A gate for two processors, with a hold of each: before its turn of this number, until the other one has come to that turn.
+    fn of_two(zero: (u64, u64), one: (u64, u64)) -> Meeting {
+        let zero = Hold {
+            cpu: 0,
+            turn: zero.0,
+            other: 1,
+            until: zero.1,
+        };
+        let one = Hold {
+            cpu: 1,
+            turn: one.0,
+            other: 0,
+            until: one.1,
+        };
+        Meeting::new([zero, one, Hold::none(), Hold::none()])
     }
 
-    /// Holds the caller until the gate was called for a processor with this step, or all turns are used up.
-    fn hold(&self, other: &Side, step: u64) {
+    /// A gate that holds processor 1 at its first call until processor 0 has come to this turn.
+    pub fn behind(turn: u64) -> Meeting {
+        Meeting::of_two((NEVER, 0), (0, turn))
+    }
+
+    /// Whether the gate was called for a processor with this turn.
+    fn has_come(&self, cpu: u32, turn: u64) -> bool {
+        match self.calls.get(cpu as usize) {
+            Some(calls) => turn < calls.load(Ordering::SeqCst),
+            None => false,
+        }
+    }
+
+    /// Holds the caller until the other processor has come, or all turns are used up.
+    fn hold(&self, hold: Hold) {
         for _ in 0..MOST_TURNS {
-            if other.has_come(step) || self.turns.fetch_add(1, Ordering::SeqCst) >= MOST_TURNS {
+            if self.has_come(hold.other, hold.until)
+                || self.turns.fetch_add(1, Ordering::SeqCst) >= MOST_TURNS
+            {
                 return;
             }
             spin_loop();
         }
     }
 
-    /// Whether the gate was called for both, and no hold ended because its turns were used up.
+    /// Whether each processor came to its holds, and no hold ended because its turns were used up.
     pub fn has_met(&self) -> bool {
-        self.zero.has_come(0)
-            && self.one.has_come(0)
-            && self.turns.load(Ordering::SeqCst) < MOST_TURNS
+        for hold in &self.holds {
+            if hold.turn != NEVER && !self.has_come(hold.cpu, hold.turn) {
+                return false;
+            }
+        }
+        self.turns.load(Ordering::SeqCst) < MOST_TURNS
     }
 }
 
 impl Gate for Meeting {
     fn pause(&self, cpu: u32, step: u64) {
-        let (own, other) = if cpu == 0 {
-            (&self.zero, &self.one)
-        } else {
-            (&self.one, &self.zero)
-        };
-        own.calls.store(step.saturating_add(1), Ordering::SeqCst);
-        if step == own.step {
-            self.hold(other, own.other_step);
+        if let Some(calls) = self.calls.get(cpu as usize) {
+            calls.store(step.saturating_add(1), Ordering::SeqCst);
+        }
+        for hold in &self.holds {
+            if hold.cpu == cpu && hold.turn == step {
+                self.hold(*hold);
+            }
         }
     }
 }
@@ -103,7 +130,7 @@ fn race<R: AllocGlobal + Threads + Wait + Sync>(rt: &R, gate: &Meeting) -> Resul
 
 #[test]
 fn each_processor_waits_for_the_other(rt: HostRuntime) -> Result<(), Fail> {
-    let gate = Meeting::new(Side::new(0, 0), Side::new(0, 0));
+    let gate = Meeting::of_two((0, 0), (0, 0));
     let ended = race(&rt, &gate)?;
     assert_eq!(rt; ended.status, Status::Done);
     assert!(rt; gate.has_met());
@@ -124,7 +151,7 @@ fn a_check_stands_where_it_was_made(rt: HostRuntime) -> Result<(), Fail> {
         (4, [check, refused, grant]),
         (5, [check, grant, passed]),
     ] {
-        let gate = Meeting::new(Side::new(step, 400), Side::new(0, step));
+        let gate = Meeting::of_two((step, 400), (0, step));
         let ended = race(&rt, &gate)?;
         assert_eq!(rt; ended.status, Status::Done);
         assert!(rt; gate.has_met(), "step {step}");

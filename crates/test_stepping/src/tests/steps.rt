@@ -303,6 +303,7 @@ fn image(alloc: Global) -> Result<Image, OutOfMemory>
         objects: objects(alloc)?,
         boots: boots(alloc)?,
         scripts: scripts(alloc)?,
+        futexes: BoundedVec::new(alloc),
     })
 }
 
@@ -485,9 +486,9 @@ fn a_late_grant_says_gone(rt: HostRuntime) -> Result<(), Fail> {
     }
     assert!(rt; matrix.is_final());
     assert!(rt; matrix.next_event().is_none());
-    assert!(rt; matrix.threads()[0].life == Life::Ended);
-    assert!(rt; matrix.threads()[1].life == Life::Unborn);
-    assert_eq!(rt; matrix.pools(), [64].as_slice());
+    assert!(rt; matrix.tables().threads()[0].life == Life::Ended);
+    assert!(rt; matrix.tables().threads()[1].life == Life::Unborn);
+    assert_eq!(rt; matrix.tables().pools(), [64].as_slice());
     Ok(())
 }
 
@@ -518,6 +519,6 @@ fn runs_to_its_end(rt: HostRuntime) -> Result<(), Fail> {
         }
     }
     assert!(rt; matrix.is_final());
-    assert!(rt; matrix.threads()[2].life == Life::Ended);
+    assert!(rt; matrix.tables().threads()[2].life == Life::Ended);
     Ok(())
 }

@@ -73,7 +73,7 @@ fn dumps_show_objects_domains_pools_and_memory(rt: HostRuntime) -> Result<(), Fa
     }
     assert!(rt; !matrix.is_final());
     let mut dump = Vec::with_capacity(alloc, DUMP_ROOM)?;
-    dump_text(&image, &matrix, &mut dump);
+    dump_text(&image, matrix.tables(), &mut dump);
     assert_eq!(rt; dump.as_slice(), DUMP.as_bytes());
     Ok(())
 }

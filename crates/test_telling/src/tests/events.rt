@@ -217,6 +217,104 @@ fn acts_on_memory_are_shown(rt: HostRuntime) -> Result<(), Fail> {
 }
 
 #[test]
+fn acts_of_time_are_shown(rt: HostRuntime) -> Result<(), Fail> {
+    let timer = Addr(0x4000_0140);
+    let mut woken = Replies::new();
+    woken.push(ThreadIx(1), Reply::Num(1));
+    let acts = [
+        Act::Arm { deadline: 5 },
+        Act::Tick { now: 5_000_000_000 },
+        Act::TimedOut { who: ThreadIx(1) },
+        Act::Expire {
+            addr: timer,
+            woken: Replies::new(),
+        },
+        Act::Expire { addr: timer, woken },
+    ];
+    are_told(
+        &rt,
+        &acts,
+        "a arm 5\na tick 5000000000\na timeout b\na expire w\na expire w wake b 1\n",
+    )
+}
+
+#[test]
+fn acts_that_stop_threads_are_shown(rt: HostRuntime) -> Result<(), Fail> {
+    let b = ThreadIx(1);
+    let mut woken = Replies::new();
+    woken.push(b, Reply::Num(0));
+    let acts = [
+        Act::Abort { who: b, done: true },
+        Act::Abort {
+            who: b,
+            done: false,
+        },
+        Act::Suspend { who: b, done: true },
+        Act::Continue {
+            who: ThreadIx(28),
+            done: false,
+        },
+        Act::Cut { who: b },
+        Act::Killed,
+        Act::Join {
+            who: b,
+            answer: Answer::Wait,
+        },
+        Act::Join {
+            who: ThreadIx(0),
+            answer: Answer::Now(Reply::Fail(Errno::EDEADLK)),
+        },
+        Act::Join {
+            who: b,
+            answer: Answer::Now(Reply::Num(0)),
+        },
+        Act::Left {
+            who: ThreadIx(0),
+            woken,
+        },
+    ];
+    are_told(
+        &rt,
+        &acts,
+        "a abort b ok\na abort b none\na suspend b ok\na continue #0 none\na cut b\na killed\na join b wait\na join a EDEADLK\na join b 0\na left a wake b 0\n",
+    )
+}
+
+#[test]
+fn acts_on_futexes_are_shown(rt: HostRuntime) -> Result<(), Fail> {
+    let addr = Addr(0x2000_0000);
+    let mut woken = Replies::new();
+    woken.push(ThreadIx(1), Reply::Num(0));
+    let acts = [
+        Act::FutexWait {
+            addr,
+            value: 1,
+            answer: Answer::Now(Reply::Fail(Errno::EAGAIN)),
+        },
+        Act::FutexWait {
+            addr,
+            value: 0,
+            answer: Answer::Wait,
+        },
+        Act::FutexWake {
+            addr,
+            answer: Answer::Now(Reply::Num(1)),
+            woken,
+        },
+        Act::FutexWake {
+            addr,
+            answer: Answer::Now(Reply::Fail(Errno::EACCES)),
+            woken: Replies::new(),
+        },
+    ];
+    are_told(
+        &rt,
+        &acts,
+        "a futex wait 0x20000000 0x1 EAGAIN\na futex wait 0x20000000 0x0 wait\na futex wake 0x20000000 1 wake b 0\na futex wake 0x20000000 EACCES\n",
+    )
+}
+
+#[test]
 fn a_text_has_room_for_its_events(rt: HostRuntime) {
     let mut woken = Replies::new();
     woken.push(ThreadIx(1), Reply::Num(0));

@@ -35,7 +35,7 @@ fn summary_of(
     last: &Matrix<'_>,
 ) -> Result<Vec<u8>, Fail> {
     let mut room = Vec::with_capacity(alloc, SUMMARY_ROOM)?;
-    summary_text(image, events, last, &mut room);
+    summary_text(image, events, last.tables(), &mut room);
     Ok(room)
 }
 

@@ -1,7 +1,7 @@
 //! The image but for its scripts.
 
 ghost use Rattle.std.specs.Prelude.{◌≡◌, ◌≤◌, IfOk, length, map, min, All};
-ghost use Rattle.um_base.specs.declared.limits.TheConstants.{AREA_ENTRY, BOOTS, DOMAINS, PARTITIONS, POOLS, SCRIPTS, STATIC_ROWS};
+ghost use Rattle.um_base.specs.declared.limits.TheConstants.{AREA_ENTRY, BOOTS, DOMAINS, FUTEXES, PARTITIONS, POOLS, SCRIPTS, STATIC_ROWS};
 ghost use Rattle.um_description.specs.{
   Names.{items},
   Numbers.{natural},
@@ -13,6 +13,7 @@ ghost use Rattle.um_description.specs.{
 use crate::numbers::clamped;
 use crate::resolve::boots::boots;
 use crate::resolve::domains::domains;
+use crate::resolve::futexes::futexes;
 use crate::resolve::objects::objects;
 use crate::resolve::partitions::{bytes, partitions};
 use std::alloc::Global;
@@ -82,6 +83,7 @@ pub fn without_scripts(
     requires objects { length d.now.objects ≤ STATIC_ROWS }
     requires boots { length d.now.boots ≤ BOOTS }
     requires scripts { length d.now.scripts ≤ SCRIPTS }
+    requires futexes { length d.now.futexes ≤ FUTEXES }
     ensures { IfOk result (λ image. image ≡ without_scripts d.now partition_ranges.now stack_ranges.now) }
 {
     let partition_entries = d.partitions.as_slice();
@@ -91,6 +93,7 @@ pub fn without_scripts(
     let domains = domains(alloc, partition_entries, d.domains.as_slice())?;
     let objects = objects(alloc, stack_ranges, d.objects.as_slice())?;
     let boots = boots(alloc, d)?;
+    let futexes = futexes(alloc, partition_entries, d.futexes.as_slice())?;
     Ok(Image {
         mpu: d.mpu,
         regions: regions(d.regions),
@@ -103,5 +106,6 @@ pub fn without_scripts(
         objects,
         boots,
         scripts: BoundedVec::new(alloc),
+        futexes,
     })
 }

@@ -1,15 +1,16 @@
 //! Script lines, with the addresses and numbers of what they name.
 
-ghost use Rattle.std.specs.Prelude.{◌≡◌, ◌≤◌, List, ℕ, length, map};
+ghost use Rattle.std.specs.Prelude.{◌≡◌, ◌≤◌, ◌+◌, ◌%◌, ◌^◌, List, ℕ, length, map, slice_get};
+ghost use Rattle.um_base.specs.Lawful.{futex_addr, futex_start};
 ghost use Rattle.um_base.specs.declared.limits.TheConstants.{DOMAINS, PARTITIONS, SCRIPTS};
 ghost use Rattle.um_description.specs.{
   Names.{partition_names},
-  Resolve.{start_named, object_addr, addr_named, term_of, ref_of, part_of, resolved},
+  Resolve.{start_named, futex_named, object_addr, addr_named, term_of, ref_of, part_of, resolved},
 };
 
 use crate::indexed::Indexed;
 use crate::named::{is_named, number, number_of};
-use um_base::{Image, Instr, Name, ObjectDef, PartRef, PartRefs, Partition, Ref, Term};
+use um_base::{Futex, Image, Instr, Name, ObjectDef, PartRef, PartRefs, Partition, Ref, Term};
 
 /// The start of the partition with this name, or another address.
 fn start_named(partitions: &[Partition], name: &Name, other: u32) -> u32
@@ -18,6 +19,35 @@ fn start_named(partitions: &[Partition], name: &Name, other: u32) -> u32
     for p in partitions {
         if is_named(&p.name, name.as_slice()) {
             return p.range.start.0;
+        }
+    }
+    other
+}
+
+/// Where the partition of a number begins, or 0.
+fn start_of(partitions: &[Partition], number: u8) -> u32
+    ensures { (offset : ℕ) → futex_start (slice_get partitions.now number) offset ≡ result + offset }
+{
+    match partitions.get(number as usize) {
+        None => 0,
+        Some(partition) => partition.range.start.0,
+    }
+}
+
+/// The address of a futex.
+fn futex_addr(image: &Image, futex: &Futex) -> u32
+    ensures { result ≡ futex_addr image.now futex.now % 2 ^ 32 }
+{
+    start_of(image.partitions.as_slice(), futex.partition).wrapping_add(futex.offset)
+}
+
+/// The address of the futex with this name, or another one.
+fn futex_named(image: &Image, futexes: &[Futex], name: &Name, other: u32) -> u32
+    ensures { result ≡ futex_named image.now name.now other futexes.now }
+{
+    for futex in futexes {
+        if is_named(&futex.name, name.as_slice()) {
+            return futex_addr(image, futex);
         }
     }
     other
@@ -41,7 +71,8 @@ fn addr_named(image: &Image, d: &Indexed<'_>, name: &Name) -> u32
 {
     let partitions = image.partitions.as_slice();
     let variable = d.variable_addr(partitions, name.as_slice());
-    let other = start_named(partitions, name, variable);
+    let futex = futex_named(image, image.futexes.as_slice(), name, variable);
+    let other = start_named(partitions, name, futex);
     object_addr(image.objects.as_slice(), name, other)
 }
 
@@ -171,5 +202,15 @@ pub fn resolved(image: &Image, d: &Indexed<'_>, instr: &Instr) -> Instr
         PipeInit { object: term, size: term },
         PipeWrite { object: term, addr: term, length: term, timeout: same },
         PipeRead { object: term, addr: term, length: term, timeout: same },
+        TimerStart { object: term, ticks: term },
+        TimerStop { object: term },
+        TimerStatus { object: term, to: same },
+        TimerSync { object: term, to: same },
+        Abort { thread: term },
+        Join { thread: term, timeout: same },
+        Suspend { thread: term },
+        Continue { thread: term },
+        FutexWait { addr: term, value: term, timeout: same },
+        FutexWake { addr: term, all: same },
     })
 }

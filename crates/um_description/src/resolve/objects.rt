@@ -115,6 +115,7 @@ fn object_def(range: Range, x: usize, t: u8, entry: &ObjectEntry) -> ObjectDef
             object_of(entry, Kind::Stack, row_addr(x), stack_setup(entries))
         }
         Details::Pipe { size } => object_of(entry, Kind::Pipe, row_addr(x), pipe_setup(size)),
+        Details::Timer => object_of(entry, Kind::Timer, row_addr(x), Setup::Timer),
     }
 }
 

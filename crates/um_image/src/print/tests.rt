@@ -44,21 +44,31 @@ object = [
  {name = \"m\", kind = \"mutex\", init = true}, {name = \"m0\", kind = \"mutex\", init = false},
  {name = \"q\", kind = \"msgq\", msg_size = 4, max_msgs = 8}, {name = \"q0\", kind = \"msgq\"},
  {name = \"k\", kind = \"stack\", entries = 64, public = true}, {name = \"k0\", kind = \"stack\"},
- {name = \"i\", kind = \"pipe\", size = 256}, {name = \"i0\", kind = \"pipe\"}]
+ {name = \"i\", kind = \"pipe\", size = 256}, {name = \"i0\", kind = \"pipe\"},
+ {name = \"t\", kind = \"timer\"}, {name = \"t0\", kind = \"timer\", public = true}]
 [[script]]
 name = \"x\"
 lines = [\"k_mem_domain_init e v0  p\", \"k_mem_domain_remove_partition e 0x20000000/32/P_RW_U_RW\",
  \"k_mem_domain_add_thread v2 @a\", \"k_thread_create @a @sa 64 y -1 K_ESSENTIAL+K_USER\", \"k_thread_user_mode_enter y\"]
 [[script]]
 name = \"y\"
-lines = [\"set r0 @rodata+2\", \"k_sem_take @s K_NO_WAIT\"]
+lines = [\"set r0 @rodata+2\", \"k_sem_take @s K_NO_WAIT\", \"k_timer_start @t 0x3\", \"k_sem_take @s K_TICKS(007)\",
+ \"k_thread_join @b K_FOREVER\", \"k_futex_wait @v1+1 0x10 K_NO_WAIT\", \"k_futex_wake @v1 all\"]
+[[futex]]
+offset = 29
+partition = \"v0\"
+name = \"v1\"
+[[futex]]
+name = \"w\"
+partition = \"p\"
+offset = 0
 ";
 
 const EVERY_KEY_PRINTED: &str =
     "version = 2\nmpu = \"pmsav8\"\nregions = 16\noops = \"halt\"\nrodata = \"73656e736f7200\"\n\
 [[pool]]\nname = \"heap\"\nsize = 4096\n\
-[[partition]]\nname = \"v0\"\nattr = \"P_RW_U_RO\"\nvars = [{name = \"v1\", size = 64, align = 32, data = \"00ff\"}]\n\
-[[partition]]\nname = \"p\"\nattr = \"P_RX_U_RX\"\nvars = [{name = \"v3\", size = 32, align = 32}]\n\
+[[partition]]\nname = \"v0\"\nattr = \"P_RW_U_RO\"\nvars = [{name = \"v3\", size = 64, align = 32, data = \"00ff\"}]\n\
+[[partition]]\nname = \"p\"\nattr = \"P_RX_U_RX\"\nvars = [{name = \"v4\", size = 32, align = 32}]\n\
 [[domain]]\nname = \"v2\"\npartitions = [\"p\", \"v0\"]\n\
 [[domain]]\nname = \"e\"\n\
 [[domain]]\nname = \"f\"\npartitions = []\n\
@@ -76,10 +86,14 @@ const EVERY_KEY_PRINTED: &str =
 [[object]]\nname = \"k0\"\nkind = \"stack\"\n\
 [[object]]\nname = \"i\"\nkind = \"pipe\"\nsize = 256\n\
 [[object]]\nname = \"i0\"\nkind = \"pipe\"\n\
+[[object]]\nname = \"t\"\nkind = \"timer\"\n\
+[[object]]\nname = \"t0\"\nkind = \"timer\"\npublic = true\n\
 [[boot]]\nthread = \"b\"\nstack = \"sb\"\nscript = \"x\"\npriority = -16\ndomain = \"v2\"\nmode = \"supervisor\"\npool = \"heap\"\ngrants = [\"a\", \"q\"]\n\
 [[boot]]\nthread = \"a\"\nstack = \"sa\"\nscript = \"y\"\npriority = 14\ndomain = \"v2\"\nmode = \"user\"\n\
 [[script]]\nname = \"x\"\nlines = [\"k_mem_domain_init e v0 p\", \"k_mem_domain_remove_partition e 536870912/32/P_RW_U_RW\", \"k_mem_domain_add_thread v2 1073741824\", \"k_thread_create 1073741824 537395200 64 y -1 K_USER+K_ESSENTIAL\", \"k_thread_user_mode_enter y\"]\n\
-[[script]]\nname = \"y\"\nlines = [\"set r0 134217730\", \"k_sem_take 1073742080 K_NO_WAIT\"]\n";
+[[script]]\nname = \"y\"\nlines = [\"set r0 134217730\", \"k_sem_take 1073742080 K_NO_WAIT\", \"k_timer_start 1073742720 3\", \"k_sem_take 1073742080 K_TICKS(7)\", \"k_thread_join 1073741952 K_FOREVER\", \"k_futex_wait 536870942 16 K_NO_WAIT\", \"k_futex_wake 536870941 all\"]\n\
+[[futex]]\nname = \"v1\"\npartition = \"v0\"\noffset = 29\n\
+[[futex]]\nname = \"w\"\npartition = \"p\"\noffset = 0\n";
 
 /// What is printed for the image of a text, or its fault.
 fn printed(alloc: Global, text: &[u8]) -> Result<Vec<u8>, Fail> {

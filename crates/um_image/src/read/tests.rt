@@ -12,7 +12,7 @@ use um_samples::{LAST_BYTE, described};
 const LINES: &str = "\"store @p+31 1 0xab\", \"load r0 @p+32 1\"";
 
 /// Changes to `LAST_BYTE`, and what is told of each.
-const REFUSED: [(&str, &str, &str); 15] = [
+const REFUSED: [(&str, &str, &str); 19] = [
     (LAST_BYTE, "", "Version"),
     (LAST_BYTE, "version = \"1", "NotToml"),
     ("version = 1", "version = 1.0", "Version"),
@@ -47,6 +47,100 @@ const REFUSED: [(&str, &str, &str); 15] = [
         "priority = 0",
         "priority = 15",
         "Limit priority 14 boot[0].priority",
+    ),
+    (
+        "load r0 @p+32 1",
+        "k_sem_take @a K_TICKS(0)",
+        "Line Range script[0].lines[1]:15",
+    ),
+    (
+        "load r0 @p+32 1",
+        "k_timer_stop @tm",
+        "LineName script[0].lines[1]:14",
+    ),
+    (
+        "kind = \"thread\"}",
+        "kind = \"timer\"}",
+        "UnknownName boot[0].thread",
+    ),
+    (
+        "kind = \"thread\"}",
+        "kind = \"timer\", init = true}",
+        "UnknownKey object[0].init",
+    ),
+];
+
+/// A description with this section of futexes, in a partition of 32 bytes.
+macro_rules! with_futexes {
+    ($futexes:literal) => {
+        concat!(
+            "version = 1\nmpu = \"pmsav7\"\nregions = 4\noops = \"abort\"\n",
+            "partition = [{name = \"p\", size = 32, attr = \"P_RW_U_RW\"}, {name = \"q\", size = 3, attr = \"P_RW_U_RW\"}]\n",
+            $futexes
+        )
+    };
+}
+
+/// Descriptions with futexes, and what is told of each.
+const FUTEXES: [(&str, &str); 14] = [
+    (
+        with_futexes!("futex = [{name = \"f\", partition = \"p\", offset = 28}]"),
+        "image",
+    ),
+    (
+        with_futexes!(
+            "futex = [{name = \"f\", partition = \"p\", offset = 1}, {name = \"g\", partition = \"p\", offset = 2}]"
+        ),
+        "image",
+    ),
+    (with_futexes!("futex = {}"), "WrongType futex"),
+    (
+        with_futexes!("futex = [{name = \"f\", partition = \"p\"}]"),
+        "MissingKey futex[0].offset",
+    ),
+    (
+        with_futexes!("futex = [{name = \"f\", offset = 0}]"),
+        "MissingKey futex[0].partition",
+    ),
+    (
+        with_futexes!("futex = [{name = \"f\", partition = 0, offset = 0}]"),
+        "WrongType futex[0].partition",
+    ),
+    (
+        with_futexes!("futex = [{name = \"f\", partition = \"p\", offset = 0, size = 4}]"),
+        "UnknownKey futex[0].size",
+    ),
+    (
+        with_futexes!("futex = [{name = \"p\", partition = \"p\", offset = 0}]"),
+        "Duplicate futex[0].name",
+    ),
+    (
+        with_futexes!(
+            "futex = [{name = \"f\", partition = \"p\", offset = 4}, {name = \"g\", partition = \"p\", offset = 4}]"
+        ),
+        "Duplicate futex[1].offset",
+    ),
+    (
+        with_futexes!(
+            "futex = [{name = \"f\", partition = \"p\", offset = 4}, {name = \"f\", partition = \"p\", offset = 4}]"
+        ),
+        "Duplicate futex[1].name",
+    ),
+    (
+        with_futexes!("futex = [{name = \"f\", partition = \"f\", offset = 0}]"),
+        "UnknownName futex[0].partition",
+    ),
+    (
+        with_futexes!("futex = [{name = \"f\", partition = \"p\", offset = 29}]"),
+        "Limit offset 28 futex[0].offset",
+    ),
+    (
+        with_futexes!("futex = [{name = \"f\", partition = \"p\", offset = -1}]"),
+        "Limit offset 0 futex[0].offset",
+    ),
+    (
+        with_futexes!("futex = [{name = \"f\", partition = \"q\", offset = 5}]"),
+        "Limit offset 0 futex[0].offset",
     ),
 ];
 
@@ -166,6 +260,28 @@ fn first_faults_are_told(rt: HostRuntime) -> Result<(), Fail> {
 }
 
 #[test]
+fn futexes_are_told(rt: HostRuntime) -> Result<(), Fail> {
+    for (text, told) in FUTEXES {
+        let found = answer(rt.alloc(), text)?;
+        assert_eq!(rt; found.as_str(), told, "{text}");
+    }
+    Ok(())
+}
+
+/// A futex of a packed partition lies before the end of the last variable.
+#[test]
+fn packed_futexes_are_told(rt: HostRuntime) -> Result<(), Fail> {
+    for (offset, told) in [(4, "image"), (5, "Limit offset 4 futex[0].offset")] {
+        let text = format!(in rt.alloc();
+            "{PACKED}[[futex]]\nname = \"f\"\npartition = \"p\"\noffset = {offset}\n"
+        )?;
+        let found = answer(rt.alloc(), text.as_str())?;
+        assert_eq!(rt; found.as_str(), told);
+    }
+    Ok(())
+}
+
+#[test]
 fn variables_are_told(rt: HostRuntime) -> Result<(), Fail> {
     for (part, other, told) in PACKED_ANSWERS {
         let changed = PACKED.replacen(rt.alloc(), part, other, 1)?;
@@ -238,6 +354,33 @@ fn greatest_weight_is_read(rt: HostRuntime) -> Result<(), Fail> {
         )?;
         let found = answer_with(alloc, LINES, lines.as_str())?;
         assert_eq!(rt; found.as_str(), told);
+    }
+    Ok(())
+}
+
+/// A call of a timer, one that stops a thread and one on a futex cost twice what another call does, and ticks of a timeout
+/// cost nothing.
+#[test]
+fn timed_lines_are_weighed(rt: HostRuntime) -> Result<(), Fail> {
+    for (line, heavy) in [
+        ("k_timer_start @a 1", 320),
+        ("k_timer_stop @a", 320),
+        ("k_timer_status_get @a r0", 320),
+        ("k_timer_status_sync @a r0", 320),
+        ("k_thread_abort @a", 320),
+        ("k_thread_join @a K_NO_WAIT", 320),
+        ("k_thread_suspend @a", 320),
+        ("k_thread_resume @a", 320),
+        ("k_futex_wait @p 0 K_TICKS(5)", 320),
+        ("k_futex_wake @p all", 320),
+        ("k_sem_take @a K_TICKS(5)", 280),
+    ] {
+        let lines = format!(in rt.alloc(); "\"{line}\"")?;
+        let changed = LAST_BYTE.replacen(rt.alloc(), LINES, lines.as_str(), 1)?;
+        match read_image(rt.alloc(), changed.as_bytes()) {
+            Ok(image) => assert_eq!(rt; weight(&image), heavy, "{line}"),
+            Err(_) => assert!(rt; false, "{line}"),
+        }
     }
     Ok(())
 }

@@ -29,14 +29,16 @@ impl Processor {
         if self.cleans.len() >= MOST {
             return Turn::Stuck;
         }
+        let thread = self.running.cleaner();
         let act = RowAct::Sweep {
-            thread: self.running.thread(),
+            thread,
             who: ThreadIx(who),
             addr: Addr(addr_of(here.image, x)),
         };
         let said = made!(sites.row(here, Row(row), &act));
         self.cleans.advance();
         self.cleans.take_in_if(here.image, row, said.cleans);
+        self.running.acts_unless(said.visits, thread);
         Turn::Made
     }
 
@@ -77,11 +79,13 @@ impl Processor {
         ensures turn { HasStepped S.Sites result here.now sites.old sites.new
             (whole self.old) self.old self.new }
     {
+        let thread = self.running.cleaner();
         let act = HeapAct::Recycle {
-            thread: self.running.thread(),
+            thread,
             addr: Addr(addr_of(here.image, row as usize)),
         };
         made!(sites.heap(here, &act, self.running.charge()));
+        self.running.acts(thread);
         self.cleans.advance();
         Turn::Made
     }

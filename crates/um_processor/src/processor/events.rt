@@ -32,6 +32,7 @@ impl Processor {
             Pending::ClearInit { addr } => self
                 .running
                 .clear_init(here, *addr, &mut self.ends, sites),
+            Pending::Killed => self.running.is_killed(here, &mut self.ends, sites),
             _ => unreachable!(),
         }
     }
@@ -46,6 +47,22 @@ impl Processor {
             (shows (Pending.Work addr ask.now) self.old.running) self.old self.new }
     {
         took!(self.running.work(here, addr, ask, &mut self.outcome, sites));
+        self.told = 0;
+        Turn::Made
+    }
+
+    /// Wakes those who wait on the futex at an address. They will be told.
+    fn wake_futex<S: Sites>(&mut self, here: &Here, addr: Addr, all: bool, sites: &mut S) -> Turn
+        requires clear { IsClear self.old }
+        requires goes { CanTurn S.Sites here.now sites.old
+            (shows (Pending.FutexWake addr all) self.old.running) }
+        ensures turn { HasStepped S.Sites result here.now sites.old sites.new
+            (shows (Pending.FutexWake addr all) self.old.running) self.old self.new }
+    {
+        took!(
+            self.running
+                .futex_wake(here, addr, all, &mut self.outcome, sites)
+        );
         self.told = 0;
         Turn::Made
     }
@@ -76,11 +93,15 @@ impl Processor {
         match step {
             Pending::Begin | Pending::Exit => unreachable!(),
             Pending::Resume | Pending::Inherit { .. } | Pending::Drops { .. } => Turn::Stuck,
-            Pending::CleanPair { .. } | Pending::Recycle => Turn::Stuck,
+            Pending::CleanPair { .. } | Pending::Recycle | Pending::Left => Turn::Stuck,
+            Pending::Tick | Pending::TimeOut { .. } | Pending::Expire => Turn::Stuck,
+            Pending::Cut { .. } => Turn::Stuck,
             Pending::Work { addr, ask } => self.work(here, *addr, ask, sites),
             Pending::DropPair { who, addr } => self.take_away(here, *who, *addr, sites),
+            Pending::FutexWake { addr, all } => self.wake_futex(here, *addr, *all, sites),
             Pending::Answer { .. } | Pending::Fatal { .. } | Pending::ClearInit { .. } =>
                 self.show_with_ends(here, step, sites),
+            Pending::Killed => self.show_with_ends(here, step, sites),
             _ => self.running.show(here, step, sites),
         }
     }

@@ -2,7 +2,8 @@
 
 ghost use Rattle.std.specs.Prelude.{◌≡◌, [], false, true, IsTrue};
 ghost use Rattle.um_steps.specs.Given.{IsGiven};
-ghost use Rattle.um_processor.specs.{Cleanings.{clean_todo}, Phases.{is_idle, is_plain_phase}, Processors.{UnlessMade, in_phase}, Standing.{CleansNext, IsClear, whole}, Turns.{CanTurn, HasStepped, MayTurn, TurnsAt}};
+ghost use Rattle.um_fine.specs.{Answers.{is_due_act, is_tick}, Steps.{Site}};
+ghost use Rattle.um_processor.specs.{Cleanings.{clean_todo}, Idles.{HasIdled, IdlesAt, is_turn}, Phases.{is_idle, is_plain_phase}, Processors.{UnlessMade, in_phase}, Standing.{CleansNext, IsClear, whole}, Turns.{CanTurn, HasStepped, MayTurn, TurnsAt}};
 ghost use Rattle.um_processor.specs.declared.phase.Phase.TheVariants as Phase;
 
 use crate::cleaning::CleanStep;
@@ -26,10 +27,10 @@ impl Processor {
 
     /// Takes the first ready thread.
     fn take<S: Sites>(&mut self, here: &Here, sites: &mut S) -> Turn
-        requires idle { is_idle self.old.running.phase ≡ true }
+        requires idle { (whole self.old).todo ≡ [] }
         requires goes { CanTurn S.Sites here.now sites.old (whole self.old) }
-        ensures turn { HasStepped S.Sites result here.now sites.old sites.new
-            (whole self.old) self.old self.new }
+        ensures turn { HasIdled S.Sites Site.scheduler is_turn result here.now sites.old sites.new
+            (whole self.old) (whole self.old) (whole self.new) }
     {
         took!(self.running.take(here, sites));
         self.clears();
@@ -49,6 +50,41 @@ impl Processor {
             CleanStep::Vacate(row) => self.vacate(here, row, sites),
             CleanStep::Recycle(row) => self.recycle(here, row, sites),
         }
+    }
+
+    /// Has the thread begin its line.
+    fn begin<S: Sites>(&mut self, here: &Here, sites: &mut S) -> Turn
+        requires given { IsGiven here.now.image.now }
+        requires clear { IsClear self.old }
+        requires goes { CanTurn S.Sites here.now sites.old (in_phase Phase.Begin self.old.running) }
+        ensures turn { HasStepped S.Sites result here.now sites.old sites.new
+            (in_phase Phase.Begin self.old.running) self.old self.new }
+    {
+        self.running.begin(here, &mut self.ends, sites)
+    }
+
+    /// Has nobody join the thread any more. Those who wait for its end will be told.
+    fn leave<S: Sites>(&mut self, here: &Here, sites: &mut S) -> Turn
+        requires clear { IsClear self.old }
+        requires goes { CanTurn S.Sites here.now sites.old (in_phase Phase.Leave self.old.running) }
+        ensures turn { HasStepped S.Sites result here.now sites.old sites.new
+            (in_phase Phase.Leave self.old.running) self.old self.new }
+    {
+        took!(self.running.leave(here, &mut self.outcome, sites));
+        self.told = 0;
+        Turn::Made
+    }
+
+    /// Handles the mark in its hand. Who is woken will be told.
+    fn handle<S: Sites>(&mut self, here: &Here, sites: &mut S) -> Turn
+        requires clear { IsClear self.old }
+        requires goes { CanTurn S.Sites here.now sites.old (in_phase Phase.Handle self.old.running) }
+        ensures turn { HasStepped S.Sites result here.now sites.old sites.new
+            (in_phase Phase.Handle self.old.running) self.old self.new }
+    {
+        took!(self.running.handle(here, &mut self.outcome, sites));
+        self.told = 0;
+        Turn::Made
     }
 
     /// Has the thread exit after its last line.
@@ -100,6 +136,10 @@ impl Processor {
             Phase::Access => self.show(here, sites),
             Phase::Start => self.show(here, sites),
             Phase::Show => self.show(here, sites),
+            Phase::Act => self.show(here, sites),
+            Phase::Begin => self.begin(here, sites),
+            Phase::Leave => self.leave(here, sites),
+            Phase::Handle => self.handle(here, sites),
             Phase::Exit => self.exit(here, sites),
             Phase::Drop => self.drop_permission(here, sites),
             _ => self.go_plain(here, sites),
@@ -136,6 +176,8 @@ impl Processor {
         ensures same { UnlessMade result (whole self.new ≡ whole self.old) }
         ensures turn { TurnsAt S.Sites result cpu image.now sites.old sites.new
             (whole self.old) (whole self.new) }
+        ensures takes { (whole self.old).todo ≡ [] → IdlesAt S.Sites Site.scheduler is_turn result cpu image.now sites.old sites.new
+            (whole self.old) (whole self.new) }
     {
         let here = &Here { image, cpu };
         if self.running.is_idle() {
@@ -145,5 +187,37 @@ impl Processor {
             Some(step) => self.clean(here, step, sites),
             None => self.step_behind(here, sites),
         }
+    }
+
+    /// Takes the first mark that is due, where it has no thread.
+    pub fn give<S: Sites>(&mut self, image: &Image, cpu: u8, sites: &mut S) -> Turn
+        requires idle { (whole self.old).todo ≡ [] }
+        requires sites { S.IsOf image.now sites.old }
+        requires goes { MayTurn S.Sites cpu image.now sites.old (whole self.old) }
+        ensures image { S.IsOf image.now sites.new }
+        ensures same { UnlessMade result (whole self.new ≡ whole self.old) }
+        ensures turn { IdlesAt S.Sites Site.clock is_due_act result cpu image.now sites.old sites.new
+            (whole self.old) (whole self.new) }
+    {
+        let here = &Here { image, cpu };
+        took!(self.running.give(here, sites));
+        self.clears();
+        Turn::Made
+    }
+
+    /// Lets time go on to the next deadline, where it has no thread.
+    pub fn tick<S: Sites>(&mut self, image: &Image, cpu: u8, sites: &mut S) -> Turn
+        requires idle { (whole self.old).todo ≡ [] }
+        requires sites { S.IsOf image.now sites.old }
+        requires goes { MayTurn S.Sites cpu image.now sites.old (whole self.old) }
+        ensures image { S.IsOf image.now sites.new }
+        ensures same { UnlessMade result (whole self.new ≡ whole self.old) }
+        ensures turn { IdlesAt S.Sites Site.clock is_tick result cpu image.now sites.old sites.new
+            (whole self.old) (whole self.new) }
+    {
+        let here = &Here { image, cpu };
+        took!(self.running.tick(here, sites));
+        self.clears();
+        Turn::Made
     }
 }

@@ -9,7 +9,7 @@ use crate::phase::Turn;
 use crate::running::Running;
 use crate::turns::made;
 use arrayvec::ArrayVec;
-use um_base::{Addr, Errno, Kind, Reply, Row, ThreadIx, Want};
+use um_base::{Addr, Errno, Kind, Reply, Row, Want};
 use um_machine::Refusal;
 use um_steps::kinds::has_kind;
 use um_steps::rows::row_at;
@@ -50,7 +50,7 @@ impl Running {
         let taken = self.taken();
         self.context.gives_claims(ends);
         self.context.answers(here.image, reply, to, taken);
-        self.leaves(here.image);
+        self.leaves(here.image, thread.0);
         Turn::Made
     }
 
@@ -63,8 +63,9 @@ impl Running {
         ensures turn { HasRun S.Sites result here.now sites.old sites.new
             (shows (check_for wanted.now) self.old) self.old self.new }
     {
+        let thread = self.thread();
         let act = RowAct::Check {
-            thread: ThreadIx(self.context.thread()),
+            thread,
             addr: wanted.addr,
             kind: wanted.kind,
             want: wanted.want,
@@ -75,7 +76,7 @@ impl Running {
         let taken = self.taken();
         self.context
             .checks(here.image, row.0, wanted.refusal, said.verdict, taken);
-        self.leaves(here.image);
+        self.leaves(here.image, thread.0);
         Turn::Made
     }
 
@@ -99,7 +100,7 @@ impl Running {
         let taken = self.taken();
         self.context
             .checks(here.image, 0, wanted.refusal, Some(Errno::EBADF), taken);
-        self.leaves(here.image);
+        self.leaves(here.image, thread.0);
         Turn::Made
     }
 

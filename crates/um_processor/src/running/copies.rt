@@ -49,7 +49,7 @@ impl Running {
         made!(sites.memory(here, &act, &mut self.spare));
         let taken = self.taken();
         self.context.copies_in(here.image, fits, &self.spare, taken);
-        self.leaves(here.image);
+        self.leaves(here.image, thread.0);
         Turn::Made
     }
 
@@ -72,7 +72,7 @@ impl Running {
         made!(sites.memory(here, &act, &mut bytes));
         let taken = self.taken();
         self.context.copies_out(here.image, fits, taken);
-        self.leaves(here.image);
+        self.leaves(here.image, thread.0);
         Turn::Made
     }
 
@@ -94,7 +94,7 @@ impl Running {
         let taken = self.taken();
         self.context
             .copies_text(here.image, said.found, &self.spare, taken);
-        self.leaves(here.image);
+        self.leaves(here.image, thread.0);
         Turn::Made
     }
 }

@@ -2,7 +2,7 @@
 
 ghost use Rattle.std.specs.Prelude.{◌≡◌, [], false};
 ghost use Rattle.um_machine.specs.declared.pending.Pending.TheVariants as Pending;
-ghost use Rattle.um_processor.specs.{Events.{shows, with_ends}, Phases.{is_idle}, Processors.{OnMade, UnlessMade, in_phase, processor_of}, Turns.{CanTurn, HasCleaned, HasEnded, TurnsAt}};
+ghost use Rattle.um_processor.specs.{Events.{resting_by, rests_by, shows, with_ends}, Phases.{is_idle}, Processors.{OnMade, UnlessMade, in_phase, processor_of}, Turns.{CanTurn, HasCleaned, HasEnded, TurnsAt}};
 ghost use Rattle.um_fine.specs.Addresses.{row_named};
 
 use crate::phase::{Phase, Turn};
@@ -12,10 +12,26 @@ use crate::turns::made;
 use arrayvec::ArrayVec;
 use um_base::{Addr, Cause, Row, ThreadIx};
 use um_tables::{Here, Sites};
-use um_words::{RowAct, ThreadAct};
+use um_words::{RowAct, ThreadAct, ThreadWord};
 
 impl Running {
-    /// Has the thread exit after its last line, unless it is doomed. The claims of its call are to end then.
+    /// A thread whose word shows it doomed, or suspended and not aborted, stops running, or goes to sleep. Returns whether it does.
+    pub fn rests(&mut self, word: &ThreadWord) -> bool
+        ensures rests { result ≡ rests_by word.now }
+        ensures left { self.new ≡ resting_by word.now self.old }
+    {
+        if word.doomed {
+            self.phase = Phase::Done;
+            return true;
+        }
+        if word.suspended && !word.aborted {
+            self.phase = Phase::Sleep;
+            return true;
+        }
+        false
+    }
+
+    /// Has the thread exit after its last line, or be killed, unless it is stopped. The claims of its call are to end then.
     pub fn exit<S: Sites>(&mut self, here: &Here, ends: &mut ArrayVec<u8, 2>, sites: &mut S) -> Turn
         requires none { ends.old.items ≡ [] }
         requires goes { CanTurn S.Sites here.now sites.old (in_phase Phase.Exit self.old) }
@@ -28,10 +44,10 @@ impl Running {
     {
         let thread = self.thread();
         let word = made!(sites.thread(here, thread, &ThreadAct::Exit { thread }));
-        if word.doomed {
-            self.phase = Phase::Done;
+        if self.rests(&word) {
             return Turn::Made;
         }
+        self.actor = Some(thread.0);
         self.context.gives_claims(ends);
         self.context.exits(here.image);
         self.expands(here.image);
@@ -61,7 +77,7 @@ impl Running {
         made!(sites.thread(here, thread, &act));
         self.context.gives_claims(ends);
         self.context.fails(here.image, reason);
-        self.leaves(here.image);
+        self.leaves(here.image, thread.0);
         Turn::Made
     }
 

@@ -1,10 +1,11 @@
 //! How a thread goes on after an event that changes nothing of it.
 
-ghost use Rattle.std.specs.Prelude.{◌≡◌, ◌<◌, drop};
+ghost use Rattle.std.specs.Prelude.{◌≡◌, ◌<◌, ◌++◌, [], drop, true};
 ghost use Rattle.um_base.specs.Places.{own_row};
+ghost use Rattle.um_fine.specs.Follows.{filled_up};
 ghost use Rattle.um_machine.specs.Goes.{Change, Next, Way};
 ghost use Rattle.um_machine.specs.declared.pending.Pending.TheVariants as Pending;
-ghost use Rattle.um_processor.specs.{Events.{behind_event, gone_by, rest_of, shows}, Processors.{processor_of}, Turns.{CanTurn, HasRun}};
+ghost use Rattle.um_processor.specs.{Events.{gone_by, left_behind, rest_of, shows, todo_after}, Processors.{processor_of, ready_of, rereading_of, rereads_if, settling_of, with_todo}, Turns.{CanTurn, HasRun}};
 
 use crate::phase::{Phase, Turn};
 use crate::running::Running;
@@ -35,15 +36,83 @@ impl Running {
         if self.visited { 2 } else { 1 }
     }
 
-    /// Goes on after the event of a step, by the phase in which it stood.
-    pub fn leaves(&mut self, image: &Image)
-        ensures { processor_of self.new
-            ≡ behind_event image.now self.old.phase self.old.context.value self.old }
+    /// Goes on after an act is over: a mark is settled, or the thread's word is read once more, or its next step comes.
+    pub fn ends_act(&mut self, image: &Image)
+        ensures { processor_of self.new ≡ with_todo self.old
+            (filled_up image.now self.old.context.value (settling_of (ready_of self.old) ++ rereading_of (ready_of self.old))) }
     {
+        if self.settles {
+            self.phase = Phase::Settle;
+        } else {
+            self.ends_settling(image);
+        }
+    }
+
+    /// Goes on after the mark is settled.
+    pub fn ends_settling(&mut self, image: &Image)
+        ensures { processor_of self.new ≡ with_todo self.old
+            (filled_up image.now self.old.context.value (rereading_of (ready_of self.old))) }
+    {
+        if self.rereads {
+            self.phase = Phase::Reread;
+        } else {
+            self.expands(image);
+        }
+    }
+
+    /// Goes on after the event of a step by this thread, by the phase in which it stood.
+    pub fn leaves(&mut self, image: &Image, thread: u8)
+        ensures { processor_of self.new ≡ left_behind image.now (todo_after self.old.phase [] (ready_of self.old))
+            self.old.context.value thread self.old }
+    {
+        self.actor = Some(thread);
         match self.phase {
             Phase::Access => self.phase = Phase::ReadDone,
-            Phase::Start => self.phase = Phase::StartLetGo,
+            Phase::Start => {
+                self.rereads = false;
+                self.phase = Phase::StartLetGo;
+            }
+            Phase::Act => {
+                self.rereads = false;
+                self.ends_act(image);
+            }
             _ => self.expands(image),
+        }
+    }
+
+    /// The same after an act that waits in the cell of this site.
+    pub fn leaves_waiting(&mut self, image: &Image, thread: u8, site: u16)
+        ensures { processor_of self.new ≡ left_behind image.now
+            (todo_after self.old.phase [] (ready_of self.old) ++ rereads_if true site) self.old.context.value thread self.old }
+    {
+        self.actor = Some(thread);
+        self.rereads = true;
+        self.cell = site;
+        match self.phase {
+            Phase::Access => {
+                self.settles = false;
+                self.phase = Phase::ActDone;
+            }
+            Phase::Start => self.phase = Phase::StartLetGo,
+            Phase::Act => self.ends_act(image),
+            _ => self.phase = Phase::Reread,
+        }
+    }
+
+    /// The same after a wait on a futex was asked for, in the cell of this site.
+    pub fn leaves_futex(&mut self, image: &Image, thread: u8, waits: bool, site: u16)
+        ensures { processor_of self.new ≡ left_behind image.now
+            (todo_after self.old.phase (settling_of (ready_of self.old)) (ready_of self.old) ++ rereads_if waits site)
+            self.old.context.value thread self.old }
+    {
+        self.actor = Some(thread);
+        self.rereads = waits;
+        self.cell = site;
+        match self.phase {
+            Phase::Access => self.phase = Phase::ActDone,
+            Phase::Start => self.phase = Phase::StartLetGo,
+            Phase::Act => self.ends_act(image),
+            _ => self.ends_settling(image),
         }
     }
 
@@ -51,8 +120,9 @@ impl Running {
     pub fn goes_on(&mut self, image: &Image)
         ensures { processor_of self.new ≡ gone_by image.now (Next.on Change.nothing Way.rest) self.old }
     {
+        let thread = self.context.thread();
         self.context.leaves_step(image, self.visited);
-        self.leaves(image);
+        self.leaves(image, thread);
     }
 
     /// Gives a thread the name in the buffer.

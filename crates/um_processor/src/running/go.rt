@@ -30,7 +30,6 @@ impl Running {
             (processor_of self.old) self.old self.new }
     {
         match self.phase {
-            Phase::Begin => self.begin(here, sites),
             Phase::Pass => self.pass(here, sites),
             Phase::SizeLook => self.look_at_size(here, sites),
             Phase::Hold => self.hold(here, Phase::ReadClaim, sites),
@@ -38,9 +37,29 @@ impl Running {
             Phase::RegionLoad => self.load_regions(here, sites),
             Phase::Edit => self.edit(here, sites),
             Phase::MoveClaim => self.claim_to_move(here, sites),
-            Phase::StartHold => self.hold(here, Phase::Start, sites),
+            Phase::StartHold => self.hold(here, Phase::Unshut, sites),
+            Phase::Unshut => self.unshut(here, sites),
             Phase::Add => self.add(here, sites),
-            Phase::Park => self.park(here, sites),
+            Phase::Park | Phase::Open => self.park(here, sites),
+            Phase::Note => self.note(here, sites),
+            Phase::Owe => self.owe(here, sites),
+            Phase::Settle => self.settle(here, sites),
+            Phase::Reread => self.reread(here, sites),
+            Phase::Look => self.look(here, sites),
+            Phase::TellCut => self.tell_cut(here, sites),
+            Phase::Rouse => self.rouse(here, sites),
+            Phase::AddRoused => self.add_roused(here, sites),
+            Phase::Sleep => self.sleep(here, sites),
+            Phase::RereadAsleep => self.reread_asleep(here, sites),
+            Phase::Paid => self.pay(here, sites),
+            Phase::ActDone => {
+                let request = Request::Domain(self.domain, DomainAct::ReadDone);
+                self.ask(here, &request, Onward::To(Phase::ActLetGo), sites)
+            }
+            Phase::ActLetGo => {
+                let request = Request::Thread(self.thread(), ThreadAct::LetGo);
+                self.ask(here, &request, Onward::EndsAct, sites)
+            }
             Phase::Done => self.ask(here, &Request::Done, Onward::To(Phase::Idle), sites),
             Phase::ReadDone => {
                 let request = Request::Domain(self.domain, DomainAct::ReadDone);

@@ -20,9 +20,10 @@ impl Running {
         ensures { processor_of self.new ≡ gone_by image.now
             (Next.on (reserve_change addr) (reserve_way addr)) self.old }
     {
+        let thread = self.context.thread();
         let taken = self.taken();
         self.context.reserves(image, addr, taken);
-        self.leaves(image);
+        self.leaves(image, thread);
     }
 
     /// Goes on with a buffer, or answers that there is none.
@@ -31,9 +32,10 @@ impl Running {
             (Next.on Change.nothing
             (if fits then Way.rest else Way.replies (Reply.Fail Errno.ENOMEM))) self.old }
     {
+        let thread = self.context.thread();
         let taken = self.taken();
         self.context.buffers(image, fits, taken);
-        self.leaves(image);
+        self.leaves(image, thread);
     }
 
     /// Asks for an address for a new object of this kind.

@@ -21,9 +21,10 @@ impl Running {
         ensures { processor_of self.new ≡ gone_by image.now
             (Next.on Change.nothing (set_way self.old.context.value.mode undo said)) self.old }
     {
+        let thread = self.context.thread();
         let taken = self.taken();
         self.context.marks(image, undo, said, taken);
-        self.leaves(image);
+        self.leaves(image, thread);
     }
 
     /// Marks the object at an address as initialised. `undo` is what is cleared first if that is refused.

@@ -39,13 +39,14 @@ impl Running {
     fn loads_or_faults(&mut self, image: &Image, allowed: bool, to: u8, value: u32)
         ensures { processor_of self.new ≡ gone_by image.now (loaded allowed to value) self.old }
     {
+        let thread = self.context.thread();
         if allowed {
             let taken = self.taken();
             self.context.loads(image, to, value, taken);
         } else {
             self.context.faults(image);
         }
-        self.leaves(image);
+        self.leaves(image, thread);
     }
 
     /// Loads a number into a register, or makes the fault in its place.

@@ -1,16 +1,18 @@
 //! The first fine step of a thread's next step.
 
-ghost use Rattle.std.specs.Prelude.{◌≡◌, ◌<◌, ◌∷◌, [], false, if◌then◌else◌, IfSome, MatchOption};
+ghost use Rattle.std.specs.Prelude.{◌≡◌, ◌<◌, ◌∷◌, [], false, if◌then◌else◌, ◌==◌, is_some, IfSome, MatchOption, drop};
 ghost use Rattle.um_base.specs.declared.limits.TheConstants.{ROWS};
-ghost use Rattle.um_fine.specs.{Addresses.{row_named}, Continues.{newborn}, Places.{but}};
+ghost use Rattle.um_fine.specs.{Addresses.{row_named}, Continues.{newborn}, Places.{armed_for, but}};
 ghost use Rattle.um_machine.specs.Limits.{IsSound};
+ghost use Rattle.um_machine.specs.declared.pending.Pending.TheVariants as Pending;
 ghost use Rattle.um_processor.specs.declared.phase.Phase.TheVariants as Phase;
-ghost use Rattle.um_processor.specs.{Events.{rest_of}, Phases.{domain_named, first_of, first_phase, is_direct, phase_of_amount, queue_of, row_of_amount}, Processors.{processor_of, refilled}};
+ghost use Rattle.um_processor.specs.{Events.{rest_of}, Phases.{act_phase, cell_of, clearing_phase, domain_named, first_of, first_phase, has_visits, is_direct, is_own, is_own_object, own_phase, phase_of_amount, queue_of, row_of_amount, settled_mark, settles_at}, Processors.{processor_of, ready_for, ready_of, refilled}};
 ghost use Rattle.um_tables.specs.Contexts.{born, steps_behind};
 
 use crate::phase::Phase;
 use crate::running::Running;
-use um_base::{Addr, Image, ROWS};
+use crate::running::timed::{act_of, armed_for, is_untimed, mark_for, noted_cell, noting_phase};
+use um_base::{Addr, Image, ROWS, ThreadIx};
 use um_machine::places::first_place;
 use um_machine::{Amount, Pending};
 use um_steps::rows::{own_row, row_at};
@@ -26,12 +28,45 @@ fn phase_of_amount(amount: &Amount) -> Phase
     }
 }
 
-/// The first phase of a step.
+/// The first phase of a call on an object.
 #[inline(always)]
-pub fn first_phase(step: &Pending) -> Phase
-    ensures { result ≡ first_phase step.now }
+fn act_phase(image: &Image, context: &Context, step: &Pending, untimed: bool) -> Phase
+    ensures { result ≡ act_phase image.now context.now step.now untimed }
+{
+    if untimed {
+        return Phase::Show;
+    }
+    noting_phase(context, noted_cell(image, step), Phase::Act)
+}
+
+/// The first phase of the clearing of a mark: a thread that clears its own object ends.
+fn clearing_phase(image: &Image, context: &Context, addr: Addr) -> Phase
+    ensures { result ≡ clearing_phase (is_own_object image.now context.now.thread addr) }
+{
+    if row_named(image, addr) as usize == own_row(image, context.thread() as usize) {
+        Phase::Leave
+    } else {
+        Phase::Show
+    }
+}
+
+/// The first phase of a step, by the one behind it.
+#[inline(always)]
+pub fn first_phase(image: &Image, context: &Context, step: &Pending, behind: &Pending) -> Phase
+    ensures { result ≡ first_phase image.now context.now step.now behind.now }
 {
     match step {
+        Pending::Work { ask, .. } => act_phase(image, context, step, is_untimed(context, ask)),
+        Pending::Join { .. } => noting_phase(context, noted_cell(image, step), Phase::Act),
+        Pending::FutexWait { .. } => noting_phase(context, noted_cell(image, step), Phase::Hold),
+        Pending::Arm { .. } => noting_phase(context, noted_cell(image, behind), Phase::Owe),
+        Pending::ArmTimer { .. } => Phase::Owe,
+        Pending::ClearInit { addr } => clearing_phase(image, context, *addr),
+        Pending::FutexWake { .. } => Phase::Hold,
+        Pending::Abort { .. } | Pending::Suspend { .. } => Phase::Show,
+        Pending::Continue { .. } | Pending::Killed | Pending::Left => Phase::Show,
+        Pending::Tick | Pending::TimeOut { .. } | Pending::Expire => Phase::Show,
+        Pending::Cut { .. } => Phase::Show,
         Pending::Load { .. } | Pending::Store { .. } | Pending::Fetch { .. } => Phase::Hold,
         Pending::CopyOut { .. } | Pending::CopyStr { .. } => Phase::Hold,
         Pending::Probe { amount, .. } => phase_of_amount(amount),
@@ -41,11 +76,11 @@ pub fn first_phase(step: &Pending) -> Phase
         Pending::DomMove { .. } => Phase::MoveClaim,
         Pending::Start { .. } => Phase::StartHold,
         Pending::Begin | Pending::Exit | Pending::Check { .. } => Phase::Show,
-        Pending::Erase { .. } | Pending::Work { .. } | Pending::Resume => Phase::Show,
+        Pending::Erase { .. } | Pending::Resume => Phase::Show,
         Pending::Answer { .. } | Pending::Grant { .. } | Pending::Own { .. } => Phase::Show,
         Pending::Inherit { .. } | Pending::DropPair { .. } => Phase::Show,
         Pending::Publish { .. } | Pending::SetInit { .. } => Phase::Show,
-        Pending::ClearInit { .. } | Pending::Named { .. } => Phase::Show,
+        Pending::Named { .. } => Phase::Show,
         Pending::Reserve { .. } | Pending::Born { .. } | Pending::Buffer { .. } => Phase::Show,
         Pending::Unbuffer { .. } | Pending::EnterUser { .. } => Phase::Show,
         Pending::Fatal { .. } | Pending::Drops { .. } | Pending::Dooms { .. } => Phase::Show,
@@ -53,12 +88,34 @@ pub fn first_phase(step: &Pending) -> Phase
     }
 }
 
-/// Whether no visits come before a step, and its fine steps name no queue and no new thread.
+/// Whether a phase is one of the thread's own next step: there is a thread, and no row is visited, and it is no errand.
+fn is_own(phase: Phase) -> bool
+    ensures { result ≡ is_own phase }
+{
+    match phase {
+        Phase::Idle | Phase::Pass | Phase::Drop => false,
+        Phase::Look | Phase::TellCut | Phase::Rouse | Phase::AddRoused => false,
+        Phase::Handle | Phase::Paid => false,
+        _ => true,
+    }
+}
+
+/// Such a phase, or that in which the thread is put back.
+pub fn own_phase(phase: Phase) -> Phase
+    ensures { result ≡ own_phase phase }
+{
+    if is_own(phase) { phase } else { Phase::Park }
+}
+
+/// By its kind alone, whether no visits come before a step, and its fine steps name no queue, no new thread, no cell and no mark.
 #[inline(always)]
 fn is_direct(step: &Pending) -> bool
     ensures { result ≡ is_direct step.now }
 {
     match step {
+        Pending::Work { .. } => false,
+        Pending::Arm { .. } | Pending::Join { .. } | Pending::FutexWait { .. } => false,
+        Pending::ClearInit { .. } => false,
         Pending::Resume | Pending::Inherit { .. } | Pending::Drops { .. } => false,
         Pending::Probe { .. } | Pending::CopyIn { .. } | Pending::Start { .. } => false,
         _ => true,
@@ -184,23 +241,53 @@ impl Running {
         }
     }
 
-    /// Readies this step. `visited` says whether visits come before it.
+    /// Readies the cell and the mark of this step, by the one behind it.
+    fn readies_act(&mut self, image: &Image, step: &Pending, behind: &Pending)
+        ensures cell { self.new.cell ≡ cell_of image.now step.now behind.now }
+        ensures settles { self.new.settles ≡ is_some (armed_for image.now self.old.context.value step.now) }
+        ensures deadline { self.new.deadline ≡ settles_at image.now self.old.context.value step.now }
+        ensures mark { self.new.mark ≡ settled_mark image.now self.old.context.value step.now }
+        ensures rest { self.new
+            ≡ record self.old {
+              cell = self.new.cell;
+              settles = self.new.settles;
+              deadline = self.new.deadline;
+              mark = self.new.mark;
+              rereads = false;
+            } }
+    {
+        let armed = armed_for(image, &self.context, step);
+        self.cell = noted_cell(image, act_of(step, behind)).unwrap_or(0);
+        self.settles = armed.is_some();
+        self.deadline = armed.unwrap_or(0);
+        self.mark = mark_for(image, self.context.thread(), step);
+        self.rereads = false;
+    }
+
+    /// Readies this step, by the one behind it. `visited` says whether visits come before it.
     #[inline(always)]
-    fn readies(&mut self, image: &Image, step: &Pending, visited: bool)
-        ensures queue { self.new.queue ≡ queue_of image.now step.now }
-        ensures newborn { born self.new.newborn ≡ newborn image.now self.old.context.value step.now }
+    fn readies(&mut self, image: &Image, step: &Pending, behind: &Pending, visited: bool)
+        ensures ready { ready_of self.new ≡ ready_for image.now self.old.context.value step.now behind.now }
         ensures rest { self.new
             ≡ record self.old {
               queue = self.new.queue;
               newborn = self.new.newborn;
+              cell = self.new.cell;
+              settles = self.new.settles;
+              deadline = self.new.deadline;
+              mark = self.new.mark;
+              rereads = false;
               visited = visited;
-              phase = first_phase step.now;
+              next = first_phase image.now self.old.context.value step.now behind.now;
+              phase = first_phase image.now self.old.context.value step.now behind.now;
             } }
     {
+        self.readies_act(image, step, behind);
         self.queue = queue_of(image, step);
         self.newborn = newborn(image, &self.context, step);
         self.visited = visited;
-        self.phase = first_phase(step);
+        self.next = first_phase(image, &self.context, step, behind);
+        self.phase = self.next;
     }
 
     /// Goes to the first fine step of the thread's next step. Most steps are direct, and of these no more than the kind is looked at.
@@ -210,9 +297,24 @@ impl Running {
         match self.context.first() {
             Some(step) if is_direct(&step) => {
                 self.visited = false;
-                self.phase = first_phase(&step);
+                self.phase = first_phase(image, &self.context, &step, &Pending::Resume);
             }
             None => self.ends_turn(),
+            Some(Pending::Work { .. }) => self.expands_work(image),
+            _ => self.expands_far(image),
+        }
+    }
+
+    /// The same for a call on an object. Most of these can't wait and arm nothing.
+    #[inline(never)]
+    fn expands_work(&mut self, image: &Image)
+        ensures { processor_of self.new ≡ refilled image.now self.old }
+    {
+        match self.context.first() {
+            Some(Pending::Work { ask, .. }) if is_untimed(&self.context, &ask) => {
+                self.visited = false;
+                self.phase = Phase::Show;
+            }
             _ => self.expands_far(image),
         }
     }
@@ -229,6 +331,73 @@ impl Running {
         };
     }
 
+    /// The second step of those that are left.
+    pub fn second_step(&self) -> Pending
+        ensures { result ≡ first_of (drop 1 self.now.context.value.pending) }
+    {
+        match self.context.second() {
+            Some(step) => step,
+            None => Pending::Resume,
+        }
+    }
+
+    /// The third one.
+    pub fn third_step(&mut self) -> Pending
+        ensures step { result ≡ first_of (drop 2 self.old.context.value.pending) }
+        ensures same { self.new ≡ self.old }
+    {
+        match self.context.third() {
+            Some(step) => step,
+            None => Pending::Resume,
+        }
+    }
+
+    /// Goes to the first fine step of this step, before which no row is visited.
+    #[tactic(auto, using(crate::proofs::Expanded::plain_goes))]
+    fn expands_to(&mut self, image: &Image, first: &Pending)
+        requires at { self.old.context.value.pending ≡ first.now ∷ drop 1 self.old.context.value.pending }
+        requires plain { has_visits first.now ≡ false }
+        ensures { processor_of self.new ≡ refilled image.now self.old }
+    {
+        let behind = self.second_step();
+        self.readies(image, first, &behind, false);
+    }
+
+    /// Goes to the first row at which a permission is passed to this thread, and readies the step behind the visits.
+    #[tactic(auto, using(crate::proofs::Expanded::alone_passes, crate::proofs::Expanded::passes_goes))]
+    fn expands_passes(&mut self, image: &Image, who: ThreadIx)
+        requires at { self.old.context.value.pending
+            ≡ Pending.Inherit who ∷ drop 1 self.old.context.value.pending }
+        ensures { processor_of self.new ≡ refilled image.now self.old }
+    {
+        let own = own_row(image, self.context.thread() as usize);
+        match self.context.second() {
+            None => self.readies(image, &Pending::Inherit { who }, &Pending::Resume, false),
+            Some(second) => {
+                let third = self.third_step();
+                self.readies(image, &second, &third, true);
+                self.visits(but(own, 0), Phase::Pass);
+            }
+        }
+    }
+
+    /// Goes to the first row at which a permission is dropped, and readies the step behind the visits.
+    #[tactic(auto, using(crate::proofs::Expanded::alone_drops, crate::proofs::Expanded::drops_goes))]
+    fn expands_drops(&mut self, image: &Image, from: u8)
+        requires at { self.old.context.value.pending
+            ≡ Pending.Drops from ∷ drop 1 self.old.context.value.pending }
+        ensures { processor_of self.new ≡ refilled image.now self.old }
+    {
+        match self.context.second() {
+            None => self.readies(image, &Pending::Drops { from }, &Pending::Resume, false),
+            Some(second) => {
+                let third = self.third_step();
+                self.readies(image, &second, &third, true);
+                self.visits(from, Phase::Drop);
+            }
+        }
+    }
+
     /// The same for any step.
     #[inline(never)]
     fn expands_far(&mut self, image: &Image)
@@ -238,25 +407,11 @@ impl Running {
             None => return self.ends_turn(),
             Some(first) => first,
         };
-        let second = self.context.second();
         match first {
             Pending::Resume => self.phase = Phase::Park,
-            Pending::Inherit { .. } => match second {
-                None => self.readies(image, &first, false),
-                Some(second) => {
-                    self.readies(image, &second, true);
-                    let own = own_row(image, self.context.thread() as usize);
-                    self.visits(but(own, 0), Phase::Pass);
-                }
-            },
-            Pending::Drops { from } => match second {
-                None => self.readies(image, &first, false),
-                Some(second) => {
-                    self.readies(image, &second, true);
-                    self.visits(from, Phase::Drop);
-                }
-            },
-            _ => self.readies(image, &first, false),
+            Pending::Inherit { who } => self.expands_passes(image, who),
+            Pending::Drops { from } => self.expands_drops(image, from),
+            _ => self.expands_to(image, &first),
         }
     }
 }

@@ -244,30 +244,32 @@ impl Running {
     fn goes(&mut self, image: &Image, onward: Onward)
         ensures { processor_of self.new ≡ gone_on image.now onward self.old }
     {
+        let thread = self.context.thread();
         match onward {
             Onward::GoesOn => self.goes_on(image),
             Onward::Faults => {
                 self.context.faults(image);
-                self.leaves(image);
+                self.leaves(image, thread);
             }
             Onward::CopyFails => {
                 self.context.fails_to_copy(image);
-                self.leaves(image);
+                self.leaves(image, thread);
             }
             Onward::Replies => {
                 let taken = self.taken();
                 self.context.replies(image, self.reply, taken);
-                self.leaves(image);
+                self.leaves(image, thread);
             }
             Onward::EntersUser(script) => {
                 self.context.enters_user(image, script);
-                self.leaves(image);
+                self.leaves(image, thread);
             }
             Onward::Dooms(from) => {
                 self.context.dooms(from);
-                self.leaves(image);
+                self.leaves(image, thread);
             }
             Onward::Expands => self.expands(image),
+            Onward::EndsAct => self.ends_act(image),
             Onward::To(phase) => self.phase = phase,
         }
     }

@@ -42,6 +42,17 @@ impl Running {
             Pending::Reserve { kind } => self.reserve(here, *kind, sites),
             Pending::Buffer { size } => self.buffer(here, *size, sites),
             Pending::Named { who } => self.name(here, *who, sites),
+            Pending::Arm { ticks } => self.arm(here, *ticks, sites),
+            Pending::ArmTimer { ticks } => self.arm_timer(here, *ticks, sites),
+            Pending::Abort { who } => self.abort(here, *who, sites),
+            Pending::Suspend { who } => self.suspend(here, *who, sites),
+            Pending::Continue { who } => self.resume(here, *who, sites),
+            Pending::Join { who, timeout } => self.join(here, *who, *timeout, sites),
+            Pending::FutexWait {
+                addr,
+                value,
+                timeout,
+            } => self.futex_wait(here, *addr, *value, *timeout, sites),
             _ => self.show_quiet(here, step, sites),
         }
     }

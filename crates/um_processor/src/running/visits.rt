@@ -6,7 +6,7 @@ ghost use Rattle.um_processor.specs.{Phases.{passed_to}, Processors.{in_phase, v
 
 use crate::phase::{Phase, Turn};
 use crate::running::Running;
-use crate::running::next::{but, first_phase};
+use crate::running::next::{but, own_phase};
 use crate::turns::made;
 use um_base::{Addr, ROWS, Row, ThreadIx};
 use um_machine::Pending;
@@ -34,7 +34,7 @@ impl Running {
         self.phase = if (row as usize) < ROWS {
             phase
         } else {
-            first_phase(&self.step())
+            own_phase(self.next)
         };
     }
 
@@ -66,7 +66,8 @@ impl Running {
             who: self.passed_to(),
             addr: Addr(addr_of(here.image, x)),
         };
-        made!(sites.row(here, Row(self.row), &act));
+        let said = made!(sites.row(here, Row(self.row), &act));
+        self.acts_unless(said.visits, ThreadIx(thread));
         let own = own_row(here.image, thread as usize);
         self.visits(but(own, self.row + 1), Phase::Pass);
         Turn::Made
@@ -100,6 +101,7 @@ impl Running {
             self.visits(next, Phase::Drop);
             return Turn::Made;
         }
+        self.acts(me);
         self.drops_from(next);
         self.visits(next, Phase::Drop);
         Turn::Made

@@ -1,6 +1,6 @@
 //! The event of a call's work on an object.
 
-ghost use Rattle.std.specs.Prelude.{◌≡◌, ◌<◌, false, IsTrue};
+ghost use Rattle.std.specs.Prelude.{◌≡◌, ◌<◌, ◌+◌, [], false, IsTrue};
 ghost use Rattle.um_base.specs.declared.limits.TheConstants.{THREADS};
 ghost use Rattle.um_machine.specs.{
   Goes.{Next, work_change, work_way},
@@ -8,12 +8,14 @@ ghost use Rattle.um_machine.specs.{
   Order.{to_thread},
   Table.{bytes_given},
 };
+ghost use Rattle.um_fine.specs.Places.{may_wait};
 ghost use Rattle.um_machine.specs.declared.pending.Pending.TheVariants as Pending;
-ghost use Rattle.um_processor.specs.{Events.{gone_by, shows, with_woken}, Phases.{is_idle}, Processors.{OnMade, UnlessMade, processor_of}, Turns.{CanTurn, TurnsAt}};
+ghost use Rattle.um_processor.specs.{Events.{rereads_behind, shows, waited_by, with_woken}, Phases.{is_idle}, Processors.{OnMade, UnlessMade, processor_of}, Turns.{CanTurn, TurnsAt}};
 
 use crate::phase::Turn;
 use crate::running::Running;
 use crate::running::next::row_named;
+use crate::running::timed::may_wait;
 use crate::turns::made;
 use um_base::{Addr, Answer, Ask, Image, Piece, Row, ThreadIx};
 use um_service::Outcome;
@@ -45,6 +47,7 @@ impl Running {
                 priority = c.priority;
                 ask = ask.now;
                 bytes = bytes_given c.buffer ask.now;
+                until = c.until;
               };
             } }
     {
@@ -52,18 +55,29 @@ impl Running {
         self.caller.thread = ThreadIx(self.context.thread());
         self.caller.priority = self.context.priority();
         self.caller.ask = *ask;
+        self.caller.until = self.context.until();
     }
 
-    /// Goes on after the work of the thread's call.
-    fn works(&mut self, image: &Image, ask: &Ask, answer: Answer, bytes: &Piece)
+    /// Goes on after the work of the thread's call on the object of a row.
+    fn works(&mut self, image: &Image, row: u8, ask: &Ask, answer: Answer, bytes: &Piece)
         requires { IsTrue (is_sound_ask ask.now) }
-        ensures { processor_of self.new ≡ gone_by image.now
+        ensures { processor_of self.new ≡ waited_by image.now [] (rereads_behind (may_wait ask.now) answer) (168 + row)
             (Next.on (work_change answer bytes.now)
             (work_way self.old.context.value.mode ask.now answer)) self.old }
     {
+        let thread = self.context.thread();
         let taken = self.taken();
         self.context.works(image, ask, answer, bytes, taken);
-        self.leaves(image);
+        match answer {
+            Answer::Wait => {
+                if may_wait(ask) {
+                    self.leaves_waiting(image, thread, 168 + row as u16);
+                } else {
+                    self.leaves(image, thread);
+                }
+            }
+            Answer::Now(_) => self.leaves(image, thread),
+        }
     }
 
     /// Does a call's work on the object at an address, and writes the outcome, whose woken threads are to be told.
@@ -87,8 +101,9 @@ impl Running {
     {
         let row = Row(row_named(here.image, addr));
         self.calls(ask);
-        made!(sites.work(here, row, addr, &self.caller, outcome));
-        self.works(here.image, ask, outcome.answer, &outcome.taken);
+        let noted = self.context.note_number();
+        made!(sites.work(here, row, addr, &self.caller, noted, outcome));
+        self.works(here.image, row.0, ask, outcome.answer, &outcome.taken);
         Turn::Made
     }
 }

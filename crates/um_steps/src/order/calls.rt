@@ -6,12 +6,12 @@ ghost use Rattle.um_machine.specs.declared.pending.Pending.TheVariants as Pendin
 ghost use Rattle.um_machine.specs.{
   State.{value_of},
   Limits.{is_sound, is_sound_ask},
-  Order.{privileged, needs, work, simple, answer, answer_to, to_addr},
+  Order.{privileged, needs, work, simple, waits, arms, answer, answer_to, to_addr},
 };
 
 use crate::order::operands::value_of;
-use crate::order::steps::{ANSWER, answer_to, needs, turn, work};
-use um_base::{Addr, Ask, Cause, Kind, Mode, Term, Want};
+use crate::order::steps::{ANSWER, answer_to, arms, needs, turn, work};
+use um_base::{Addr, Ask, Cause, Kind, Mode, Term, Timeout, Want};
 use um_machine::{Amount, Pending, Thread};
 
 /// What only a supervisor may do.
@@ -44,7 +44,21 @@ pub fn simple(me: &mut Thread, object: &Term, kind: Kind, ask: &Ask)
     );
 }
 
-/// The same, with a register that the answer is written to.
+/// The same of work that may wait.
+pub fn waits(me: &mut Thread, object: &Term, kind: Kind, timeout: Timeout, ask: &Ask)
+    requires { IsTrue (is_sound_ask ask.now) }
+    ensures { me.new ≡ record me.old {
+      pending = waits
+          (value_of me.old.registers object.now) kind timeout ask.now;
+    } }
+{
+    let x = value_of(&me.registers, object);
+    turn(&mut me.pending, &[work(x, ask), ANSWER]);
+    arms(&mut me.pending, timeout);
+    me.pending.push(&needs(x, kind, Want::Init));
+}
+
+/// Work that doesn't wait, with a register that the answer is written to.
 pub fn counts(me: &mut Thread, object: &Term, kind: Kind, ask: &Ask, to: u8)
     requires { IsTrue (is_sound_ask ask.now) }
     ensures { let x = value_of me.old.registers object.now in
@@ -58,12 +72,20 @@ pub fn counts(me: &mut Thread, object: &Term, kind: Kind, ask: &Ask, to: u8)
 }
 
 /// Work that gives bytes, which are copied in before it.
-pub fn gives(me: &mut Thread, object: &Term, kind: Kind, addr: &Term, amount: Amount, ask: &Ask)
+pub fn gives(
+    me: &mut Thread,
+    object: &Term,
+    kind: Kind,
+    addr: &Term,
+    amount: Amount,
+    timeout: Timeout,
+    ask: &Ask,
+)
     requires { IsTrue (is_sound_ask ask.now) }
     ensures { let x = value_of me.old.registers object.now in
         me.new ≡ record me.old {
           pending = needs x kind Want.Init ∷ Pending.CopyIn
-              (to_addr (value_of me.old.registers addr.now)) amount ∷ work x ask.now ∷ answer;
+              (to_addr (value_of me.old.registers addr.now)) amount ∷ arms timeout (work x ask.now ∷ answer);
         } }
 {
     let x = value_of(&me.registers, object);
@@ -71,34 +93,36 @@ pub fn gives(me: &mut Thread, object: &Term, kind: Kind, addr: &Term, amount: Am
         addr: Addr(value_of(&me.registers, addr)),
         amount,
     };
-    turn(
-        &mut me.pending,
-        &[needs(x, kind, Want::Init), copy, work(x, ask), ANSWER],
-    );
+    turn(&mut me.pending, &[work(x, ask), ANSWER]);
+    arms(&mut me.pending, timeout);
+    me.pending.push(&copy);
+    me.pending.push(&needs(x, kind, Want::Init));
 }
 
 /// Work that takes bytes, which are copied out to a buffer.
-pub fn takes(me: &mut Thread, object: &Term, kind: Kind, addr: &Term, amount: Amount, ask: &Ask)
+pub fn takes(
+    me: &mut Thread,
+    object: &Term,
+    kind: Kind,
+    addr: &Term,
+    amount: Amount,
+    timeout: Timeout,
+    ask: &Ask,
+)
     requires { IsTrue (is_sound_ask ask.now) }
     ensures { let x = value_of me.old.registers object.now in
         let a = to_addr (value_of me.old.registers addr.now) in
         me.new ≡ record me.old {
-          pending = needs x kind Want.Init ∷ Pending.Probe a amount ∷ work x ask.now
-              ∷ Pending.CopyOut a ∷ answer;
+          pending = needs x kind Want.Init ∷ Pending.Probe a amount
+              ∷ arms timeout (work x ask.now ∷ Pending.CopyOut a ∷ answer);
         } }
 {
     let x = value_of(&me.registers, object);
     let addr = Addr(value_of(&me.registers, addr));
     let probe = Pending::Probe { addr, amount };
     let copy = Pending::CopyOut { addr };
-    turn(
-        &mut me.pending,
-        &[
-            needs(x, kind, Want::Init),
-            probe,
-            work(x, ask),
-            copy,
-            ANSWER,
-        ],
-    );
+    turn(&mut me.pending, &[work(x, ask), copy, ANSWER]);
+    arms(&mut me.pending, timeout);
+    me.pending.push(&probe);
+    me.pending.push(&needs(x, kind, Want::Init));
 }

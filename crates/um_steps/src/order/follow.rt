@@ -5,12 +5,12 @@ ghost use Rattle.um_base.specs.declared.act.Cause.TheVariants as Cause;
 ghost use Rattle.um_machine.specs.{
   Goes.{at_steps, checked_way, error_way, steps_by},
   Limits.{IsSound, is_sound_ask},
-  Order.{Steps, refuses, copy_fails, answer_error},
+  Order.{Steps, refuses, copy_fails, answer_error, to_deadline},
 };
 
 use crate::order::steps::{refusal_reason, rounded};
 use um_base::{Ask, Cause, Errno, Image, Mode, Reply};
-use um_machine::{Pending, Refusal, Thread};
+use um_machine::{Pending, Pendings, Refusal, Thread};
 
 /// The end of a call that is refused.
 pub fn refuses(mode: Mode, cause: Cause) -> Pending
@@ -69,6 +69,32 @@ pub fn refused(mode: Mode, refusal: Refusal, error: Errno) -> Pending
             reply: Some(reply),
             to: None,
         },
+        Refusal::AnswersUninit(reply) => match error {
+            Errno::EINVAL => Pending::Answer {
+                reply: Some(reply),
+                to: None,
+            },
+            _ => refuses(mode, Cause::Refused(error)),
+        },
+    }
+}
+
+/// A timer is started next to the deadline that was armed.
+#[inline(never)]
+pub fn runs_to(pending: &mut Pendings, deadline: u64)
+    ensures { pending.new ≡ to_deadline deadline pending.old }
+{
+    if let Some(
+        Pending::Work {
+            addr,
+            ask: Ask::TimerStart { .. },
+        },
+    ) = pending.first()
+    {
+        pending.replace(&Pending::Work {
+            addr,
+            ask: Ask::TimerStart { deadline },
+        });
     }
 }
 

@@ -5,7 +5,7 @@ ghost use Rattle.um_machine.specs.Order.{steps_of};
 ghost use Rattle.um_steps.specs.Accesses.{is_sized};
 
 use crate::order::follow::refuses;
-use crate::order::{accesses, domains, objects, services, threads};
+use crate::order::{accesses, domains, futexes, objects, services, stops, threads, timers};
 use um_base::{Cause, Image, Instr, THREADS};
 use um_machine::{Pending, Thread};
 
@@ -39,6 +39,34 @@ pub fn begins(image: &Image, t: usize, me: &mut Thread, instr: &Instr)
         Instr::Create { .. } | Instr::UserMode { .. } | Instr::NameSet { .. } => {
             threads::begins(image, me, instr);
         }
-        _ => services::begins(me, instr),
+        Instr::Abort { .. } | Instr::Join { .. } | Instr::Suspend { .. } | Instr::Continue { .. } =>
+            stops::begins(image, t, me, instr),
+        Instr::TimerStart { .. }
+        | Instr::TimerStop { .. }
+        | Instr::TimerStatus { .. }
+        | Instr::TimerSync { .. } => timers::begins(me, instr),
+        Instr::FutexWait { .. } | Instr::FutexWake { .. } => futexes::begins(me, instr),
+        Instr::SemInit { .. }
+        | Instr::SemTake { .. }
+        | Instr::SemGive { .. }
+        | Instr::SemReset { .. }
+        | Instr::SemCount { .. }
+        | Instr::MutexInit { .. }
+        | Instr::MutexLock { .. }
+        | Instr::MutexUnlock { .. }
+        | Instr::MsgqInit { .. }
+        | Instr::MsgqPut { .. }
+        | Instr::MsgqGet { .. }
+        | Instr::MsgqPeek { .. }
+        | Instr::MsgqPurge { .. }
+        | Instr::MsgqUsed { .. }
+        | Instr::StackInit { .. }
+        | Instr::StackPush { .. }
+        | Instr::StackPop { .. }
+        | Instr::PipeInit { .. }
+        | Instr::PipeWrite { .. }
+        | Instr::PipeRead { .. }
+        | Instr::PipeReset { .. }
+        | Instr::PipeClose { .. } => services::begins(me, instr),
     }
 }

@@ -1,4 +1,4 @@
-//! Calls on the objects of the five services.
+//! Calls on semaphores, mutexes, message queues, stacks and pipes.
 
 ghost use Rattle.std.specs.Prelude.{◌≡◌, ℕ, IsTrue};
 ghost use Rattle.um_base.specs.declared.image.Image.{Image};
@@ -6,10 +6,10 @@ ghost use Rattle.um_machine.specs.declared.pending.Amount.TheVariants as Amount;
 ghost use Rattle.um_machine.specs.{State.{value_of}, Order.{steps_of, to_addr}};
 ghost use Rattle.um_steps.specs.Subjects.{is_service};
 
-use crate::order::calls::{counts, gives, simple, takes};
+use crate::order::calls::{counts, gives, simple, takes, waits};
 use crate::order::initialisations::{mutex, pipe, queue, semaphore, stack};
 use crate::order::operands::value_of;
-use um_base::{Addr, Ask, Instr, Kind, Term};
+use um_base::{Addr, Ask, Instr, Kind, Term, Timeout};
 use um_machine::{Amount, Thread};
 
 /// The size of a message of the queue at an address.
@@ -32,19 +32,16 @@ pub fn begins(me: &mut Thread, instr: &Instr)
             limit,
         } => semaphore(me, object, count, limit),
         Instr::SemTake { object, timeout } => {
-            simple(me, object, Kind::Sem, &Ask::SemTake { timeout: *timeout });
+            let ask = Ask::SemTake { timeout: *timeout };
+            waits(me, object, Kind::Sem, *timeout, &ask);
         }
         Instr::SemGive { object } => simple(me, object, Kind::Sem, &Ask::SemGive),
         Instr::SemReset { object } => simple(me, object, Kind::Sem, &Ask::SemReset),
         Instr::SemCount { object, to } => counts(me, object, Kind::Sem, &Ask::SemCount, *to),
         Instr::MutexInit { object } => mutex(me, object),
         Instr::MutexLock { object, timeout } => {
-            simple(
-                me,
-                object,
-                Kind::Mutex,
-                &Ask::MutexLock { timeout: *timeout },
-            );
+            let ask = Ask::MutexLock { timeout: *timeout };
+            waits(me, object, Kind::Mutex, *timeout, &ask);
         }
         Instr::MutexUnlock { object } => simple(me, object, Kind::Mutex, &Ask::MutexUnlock),
         Instr::MsgqInit {
@@ -59,7 +56,7 @@ pub fn begins(me: &mut Thread, instr: &Instr)
         } => {
             let amount = message_of(&me.registers, object);
             let ask = Ask::MsgqPut { timeout: *timeout };
-            gives(me, object, Kind::Msgq, addr, amount, &ask);
+            gives(me, object, Kind::Msgq, addr, amount, *timeout, &ask);
         }
         Instr::MsgqGet {
             object,
@@ -68,11 +65,19 @@ pub fn begins(me: &mut Thread, instr: &Instr)
         } => {
             let amount = message_of(&me.registers, object);
             let ask = Ask::MsgqGet { timeout: *timeout };
-            takes(me, object, Kind::Msgq, addr, amount, &ask);
+            takes(me, object, Kind::Msgq, addr, amount, *timeout, &ask);
         }
         Instr::MsgqPeek { object, addr } => {
             let amount = message_of(&me.registers, object);
-            takes(me, object, Kind::Msgq, addr, amount, &Ask::MsgqPeek);
+            takes(
+                me,
+                object,
+                Kind::Msgq,
+                addr,
+                amount,
+                Timeout::NoWait,
+                &Ask::MsgqPeek,
+            );
         }
         Instr::MsgqPurge { object } => simple(me, object, Kind::Msgq, &Ask::MsgqPurge),
         Instr::MsgqUsed { object, to } => counts(me, object, Kind::Msgq, &Ask::MsgqUsed, *to),
@@ -87,7 +92,15 @@ pub fn begins(me: &mut Thread, instr: &Instr)
             timeout,
         } => {
             let ask = Ask::StackPop { timeout: *timeout };
-            takes(me, object, Kind::Stack, addr, Amount::Bytes(4), &ask);
+            takes(
+                me,
+                object,
+                Kind::Stack,
+                addr,
+                Amount::Bytes(4),
+                *timeout,
+                &ask,
+            );
         }
         Instr::PipeInit { object, size } => pipe(me, object, size),
         Instr::PipeWrite {
@@ -101,7 +114,15 @@ pub fn begins(me: &mut Thread, instr: &Instr)
                 length,
                 timeout: *timeout,
             };
-            gives(me, object, Kind::Pipe, addr, Amount::Bytes(length), &ask);
+            gives(
+                me,
+                object,
+                Kind::Pipe,
+                addr,
+                Amount::Bytes(length),
+                *timeout,
+                &ask,
+            );
         }
         Instr::PipeRead {
             object,
@@ -114,7 +135,15 @@ pub fn begins(me: &mut Thread, instr: &Instr)
                 length,
                 timeout: *timeout,
             };
-            takes(me, object, Kind::Pipe, addr, Amount::Bytes(length), &ask);
+            takes(
+                me,
+                object,
+                Kind::Pipe,
+                addr,
+                Amount::Bytes(length),
+                *timeout,
+                &ask,
+            );
         }
         Instr::PipeReset { object } => simple(me, object, Kind::Pipe, &Ask::PipeReset),
         Instr::PipeClose { object } => simple(me, object, Kind::Pipe, &Ask::PipeClose),

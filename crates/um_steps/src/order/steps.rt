@@ -6,10 +6,10 @@ ghost use Rattle.std.specs.{
 };
 ghost use Rattle.um_machine.specs.{
   Limits.{is_sound},
-  Order.{needs, needs_any, work, rounded, refusal_reason, to_addr},
+  Order.{needs, needs_any, needs_thread, arms, work, rounded, refusal_reason, to_addr},
 };
 
-use um_base::{Addr, Ask, Errno, Kind, Mode, Reply, Want};
+use um_base::{Addr, Ask, Errno, Kind, Mode, Reply, Timeout, Want};
 use um_machine::{Pending, Pendings, Refusal};
 
 /// The answer that was worked out.
@@ -51,6 +51,17 @@ pub fn turn(pending: &mut Pendings, steps: &[Pending])
     }
 }
 
+/// With a number of ticks a call arms its deadline before the next steps, of which at most 3 are left.
+pub fn arms(pending: &mut Pendings, timeout: Timeout)
+    requires { length pending.old ≤ 3 }
+    ensures steps { pending.new ≡ arms timeout pending.old }
+    ensures few { length pending.new ≤ 4 }
+{
+    if let Timeout::Ticks(ticks) = timeout {
+        pending.push(&Pending::Arm { ticks });
+    }
+}
+
 /// The check of an object that a call needs.
 pub fn needs(a: u32, kind: Kind, want: Want) -> Pending
     ensures { result ≡ needs a kind want }
@@ -72,6 +83,18 @@ pub fn needs_any(a: u32) -> Pending
         kind: None,
         want: Want::Any,
         refusal: Refusal::FailsUser,
+    }
+}
+
+/// The check of a thread object that is initialised, and what follows where it isn't.
+pub fn needs_thread(a: u32, refusal: Refusal) -> Pending
+    ensures { result ≡ needs_thread a refusal }
+{
+    Pending::Check {
+        addr: Addr(a),
+        kind: Some(Kind::Thread),
+        want: Want::Init,
+        refusal,
     }
 }
 

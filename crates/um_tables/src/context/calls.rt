@@ -84,6 +84,8 @@ impl Context {
     {
         let reply = reply.unwrap_or(self.own.reply);
         self.claims.clear();
+        self.own.until = None;
+        self.noted = None;
         put_answer(&mut self.own.registers, to, reply);
         self.own.goes_on(image, taken);
     }

@@ -19,6 +19,8 @@ impl Context {
         self.ended = true;
         self.claims.clear();
         end_steps(image, self.thread as usize, &mut self.own);
+        self.own.until = None;
+        self.noted = None;
     }
 
     /// Fails: it ends, or dooms all.
@@ -29,6 +31,8 @@ impl Context {
         self.ended = true;
         self.claims.clear();
         fatal_steps(image, self.thread as usize, &mut self.own, reason);
+        self.own.until = None;
+        self.noted = None;
     }
 
     /// The rows from this one on are still to be visited, to drop its permissions.

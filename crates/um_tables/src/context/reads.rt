@@ -1,15 +1,17 @@
 //! What a processor reads of a thread's own part.
 
 ghost use Rattle.std.specs.{
-  Prelude.{◌≡◌, ◌<◌, ◌≤◌, ◌∷◌, [], drop, is_some, length, nat_lt, IfSome, MatchOption},
+  Prelude.{◌≡◌, ◌<◌, ◌≤◌, ◌∷◌, [], drop, is_some, length, nat_lt, unwrap_or, IfSome, MatchOption},
   List.{All},
 };
 ghost use Rattle.um_base.specs.declared.limits.TheConstants.{ROWS};
 ghost use Rattle.um_machine.specs.{Limits.{IsSound}, State.{instruction_at}};
 ghost use Rattle.um_fine.specs.Continues.{reply_of};
+ghost use Rattle.um_tables.specs.Seekers.{seeker_of};
 
 use crate::context::Context;
-use um_base::{Image, Mode, Piece, Reply, Row};
+use crate::seeker::Seeker;
+use um_base::{Image, Mode, Piece, Reply, Row, ThreadIx};
 use um_machine::places::instruction_at;
 use um_machine::{Pending, Place};
 
@@ -32,6 +34,29 @@ impl Context {
         ensures sound { IfSome result IsSound }
     {
         self.own.pending.second()
+    }
+
+    /// The step after that one. The steps stay as they are.
+    #[tactic(auto, using(crate::proofs::Fronts::third_is, crate::proofs::Fronts::put_back_twice))]
+    pub fn third(&mut self) -> Option<Pending>
+        ensures step { MatchOption result (drop 2 self.old.pending ≡ [])
+            (λ step. drop 2 self.old.pending ≡ step ∷ drop 3 self.old.pending) }
+        ensures same { self.new ≡ self.old }
+    {
+        let _few = self.own.pending.len();
+        let first = match self.own.pending.first() {
+            None => return None,
+            Some(first) => first,
+        };
+        let second = match self.own.pending.second() {
+            None => return None,
+            Some(second) => second,
+        };
+        self.own.pending.skip(2);
+        let third = self.own.pending.first();
+        self.own.pending.push(&second);
+        self.own.pending.push(&first);
+        third
     }
 
     pub fn mode(&self) -> Mode
@@ -87,6 +112,39 @@ impl Context {
         ensures { result.now ≡ self.now.buffer }
     {
         &self.own.buffer
+    }
+
+    /// The deadline that its call has armed.
+    pub fn until(&self) -> Option<u64>
+        ensures { result ≡ self.now.until }
+    {
+        self.own.until
+    }
+
+    /// The number of the step by which its word notes a cell.
+    pub fn noted(&self) -> Option<u32>
+        ensures { result ≡ self.now.noted }
+    {
+        self.noted
+    }
+
+    /// The number of its note, or 0.
+    pub fn note_number(&self) -> u32
+        ensures { result ≡ unwrap_or self.now.noted 0 }
+    {
+        self.noted.unwrap_or(0)
+    }
+
+    /// As a thread that asks no object, and may begin to wait.
+    pub fn seeker(&self) -> Seeker
+        ensures { result ≡ seeker_of self.now }
+    {
+        Seeker {
+            thread: ThreadIx(self.thread),
+            priority: self.own.priority,
+            until: self.own.until,
+            noted: self.note_number(),
+        }
     }
 
     /// The rows that its call holds, in the order of the checks.

@@ -132,6 +132,11 @@ fn put_kept(room: &mut Vec<u8>, image: &Indexed, contents: &Contents)
                 put_share(room, pipe.len() as u32, pipe.size())
             }
         }
+        Contents::Stopped { status } => {
+            put_decimal(room, *status);
+            put_text(room, "/stopped");
+        }
+        Contents::Running { .. } => put_text(room, "0/running"),
     }
 }
 

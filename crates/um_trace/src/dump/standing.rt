@@ -2,10 +2,10 @@
 
 ghost use Rattle.std.specs.{Prelude.{◌≡◌, ◌<◌, ◌≤◌, length, position, IfSome}, List.{list_any}};
 ghost use Rattle.um_machine.specs.State.{thread_at};
-ghost use Rattle.um_trace.specs.Dump.{is_waiter, awaited, waits, is_ended, standing_of, shown_thread};
+ghost use Rattle.um_trace.specs.Dump.{is_waiter, asked_in, awaited, joins_or, watches, waits, is_ended, standing_of, shown_thread};
 
 use crate::dump::state::{is_shown, thread_of_row};
-use um_base::{Image, ROWS, Row, Waiter};
+use um_base::{Addr, Ask, Image, ROWS, Row, ThreadIx, Waiter};
 use um_machine::Life;
 use um_steps::Dumped;
 
@@ -18,6 +18,10 @@ pub enum Standing {
     Ended,
     /// It waits on the object of a row.
     Waits(Row),
+    /// It waits for the end of a thread.
+    Joins(ThreadIx),
+    /// It waits on the futex at an address.
+    Watches(Addr),
     Ready,
 }
 
@@ -41,15 +45,53 @@ fn awaited<D: Dumped>(last: &D, thread: u8) -> Option<usize>
     None
 }
 
-/// A living thread, by the row on which it waits.
-fn waits(row: Option<usize>) -> Standing
+/// What a thread asks that stands in a list of waiters.
+fn asked_in(waiters: &[Waiter], thread: u8) -> Option<Ask>
+    ensures { result ≡ asked_in thread waiters.now }
+{
+    for i in 0..waiters.len() {
+        let waiter = &waiters[i];
+        if waiter.thread.0 == thread {
+            return Some(waiter.ask);
+        }
+    }
+    None
+}
+
+/// A living thread that waits on no object, by what it asks among those who wait for an end, and among those who wait on a futex.
+fn joins_or_watches(joined: Option<Ask>, watched: Option<Ask>) -> Standing
+    ensures { result ≡ joins_or joined (watches watched) }
+{
+    match joined {
+        Some(Ask::Join { who }) => Standing::Joins(who),
+        _ => match watched {
+            Some(Ask::FutexWait { addr }) => Standing::Watches(addr),
+            _ => Standing::Ready,
+        },
+    }
+}
+
+/// A living thread, by the row on which it waits, or how it is where there is none.
+fn waits(row: Option<usize>, other: Standing) -> Standing
     requires { IfSome row (λ x. x < ROWS) }
-    ensures { result ≡ waits row }
+    ensures { result ≡ waits row other }
 {
     match row {
         Some(row) => Standing::Waits(Row(row as u8)),
-        None => Standing::Ready,
+        None => other,
     }
+}
+
+/// A living thread: by the object, the end or the futex that it waits for.
+fn living<D: Dumped>(last: &D, thread: u8) -> Standing
+    ensures { result
+        ≡ waits (awaited (D.state last.now).objects thread)
+        (joins_or (asked_in thread (D.state last.now).joins)
+        (watches (asked_in thread (D.state last.now).futexes))) }
+{
+    let joined = asked_in(last.joins(), thread);
+    let watched = asked_in(last.futexes(), thread);
+    waits(awaited(last, thread), joins_or_watches(joined, watched))
 }
 
 /// How a thread is: the first of these that holds.
@@ -65,7 +107,7 @@ pub fn standing_of<D: Dumped>(last: &D, thread: u8) -> Standing
     } else if life == Life::Ended {
         Standing::Ended
     } else {
-        waits(awaited(last, thread))
+        living(last, thread)
     }
 }
 

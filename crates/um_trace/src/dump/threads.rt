@@ -8,16 +8,17 @@ ghost use Rattle.um_trace.specs.{
 };
 
 use crate::dump::standing::{Standing, shown_thread, standing_of};
-use crate::names::{put_domain, put_row};
-use crate::room::{put_newline, put_short, put_signed, put_space, put_text};
-use um_base::{Image, ROWS};
+use crate::indexed::Indexed;
+use crate::names::{put_domain, put_of, put_row};
+use crate::room::{put_address, put_newline, put_short, put_signed, put_space, put_text};
+use um_base::ROWS;
 use um_machine::Life;
 use um_steps::Dumped;
 use um_vocabulary::mode_word;
 
 /// How a thread is.
 #[tactic(auto, unfolding(crate::specs::Dump::standing_text))]
-fn put_standing(room: &mut Vec<u8>, image: &Image, standing: Standing)
+fn put_standing(room: &mut Vec<u8>, image: &Indexed, standing: Standing)
     requires { vec_len room.old + 30 ≤ vec_capacity room.old }
     ensures { Puts room.old room.new (standing_text image.now standing) 30 }
 {
@@ -27,7 +28,12 @@ fn put_standing(room: &mut Vec<u8>, image: &Image, standing: Standing)
         Standing::Ended => put_text(room, "ended"),
         Standing::Waits(row) => {
             put_text(room, "waits:");
-            put_row(room, image, row.0 as usize);
+            put_row(room, image.image(), row.0 as usize);
+        }
+        Standing::Joins(who) => put_of(room, image, "waits:", who),
+        Standing::Watches(addr) => {
+            put_text(room, "waits:");
+            put_address(room, addr);
         }
         Standing::Ready => put_text(room, "ready"),
     }
@@ -35,7 +41,7 @@ fn put_standing(room: &mut Vec<u8>, image: &Image, standing: Standing)
 
 /// The mode, the priority and the domain of a thread that was started.
 #[tactic(auto, unfolding(crate::specs::Dump::rights_text))]
-fn put_rights<D: Dumped>(room: &mut Vec<u8>, image: &Image, last: &D, thread: u8)
+fn put_rights<D: Dumped>(room: &mut Vec<u8>, image: &Indexed, last: &D, thread: u8)
     requires { vec_len room.old + 41 ≤ vec_capacity room.old }
     ensures { Puts room.old room.new
         (rights_text image.now (thread_at (D.state last.now) thread)) 41 }
@@ -47,13 +53,13 @@ fn put_rights<D: Dumped>(room: &mut Vec<u8>, image: &Image, last: &D, thread: u8
         put_space(room);
         put_signed(room, last.priority(thread));
         put_space(room);
-        put_domain(room, image, last.domain(thread));
+        put_domain(room, image.image(), last.domain(thread));
     }
 }
 
 /// What follows the object of a thread.
 #[tactic(auto, unfolding(crate::specs::Dump::life_text))]
-fn put_life<D: Dumped>(room: &mut Vec<u8>, image: &Image, last: &D, thread: u8)
+fn put_life<D: Dumped>(room: &mut Vec<u8>, image: &Indexed, last: &D, thread: u8)
     requires { vec_len room.old + 71 ≤ vec_capacity room.old }
     ensures { Puts room.old room.new
         (life_text image.now (D.state last.now) thread (thread_at (D.state last.now) thread)) 71 }
@@ -64,13 +70,13 @@ fn put_life<D: Dumped>(room: &mut Vec<u8>, image: &Image, last: &D, thread: u8)
 
 /// The line of a thread and its row.
 #[tactic(auto, unfolding(crate::specs::Dump::thread_line))]
-fn put_thread_line<D: Dumped>(room: &mut Vec<u8>, image: &Image, last: &D, row: usize, thread: u8)
+fn put_thread_line<D: Dumped>(room: &mut Vec<u8>, image: &Indexed, last: &D, row: usize, thread: u8)
     requires room { vec_len room.old + 128 ≤ vec_capacity room.old }
     requires row { row < ROWS }
     ensures { Puts room.old room.new (thread_line image.now (D.state last.now) row thread) 128 }
 {
     put_text(room, "thread ");
-    put_row(room, image, row);
+    put_row(room, image.image(), row);
     put_space(room);
     put_life(room, image, last, thread);
     put_newline(room);
@@ -78,19 +84,19 @@ fn put_thread_line<D: Dumped>(room: &mut Vec<u8>, image: &Image, last: &D, row: 
 
 /// The line of a row, where a thread object stands there.
 #[tactic(auto, unfolding(crate::specs::Dump::thread_line_of))]
-fn put_line_of<D: Dumped>(room: &mut Vec<u8>, image: &Image, last: &D, row: usize)
+fn put_line_of<D: Dumped>(room: &mut Vec<u8>, image: &Indexed, last: &D, row: usize)
     requires room { vec_len room.old + 128 ≤ vec_capacity room.old }
     requires row { row < ROWS }
     ensures { Puts room.old room.new (thread_line_of image.now (D.state last.now) row) 128 }
 {
-    match shown_thread(image, last, row) {
+    match shown_thread(image.image(), last, row) {
         Some(thread) => put_thread_line(room, image, last, row, thread),
         None => {}
     }
 }
 
 /// The lines of threads, by the rows of their objects.
-pub fn put_threads<D: Dumped>(room: &mut Vec<u8>, image: &Image, last: &D)
+pub fn put_threads<D: Dumped>(room: &mut Vec<u8>, image: &Indexed, last: &D)
     requires { vec_len room.old + 128 * ROWS ≤ vec_capacity room.old }
     ensures { Puts room.old room.new
         (flat_map (thread_line_of image.now (D.state last.now)) (numbers ROWS)) (128 * ROWS) }

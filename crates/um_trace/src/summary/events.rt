@@ -14,7 +14,7 @@ pub enum Counted {
     /// Checks that aren't ok.
     Refused,
     Fatals,
-    /// Work that waits.
+    /// Work on an object that waits.
     Waits,
     Recycles,
 }

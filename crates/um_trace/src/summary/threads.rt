@@ -20,7 +20,7 @@ fn is_so(shown: Shown, standing: Standing) -> bool
 {
     match (shown, standing) {
         (Shown::Ended, Standing::Ended) => true,
-        (Shown::Waiting, Standing::Waits(_)) => true,
+        (Shown::Waiting, Standing::Waits(_) | Standing::Joins(_) | Standing::Watches(_)) => true,
         _ => false,
     }
 }

@@ -13,46 +13,62 @@ use Rattle.um_fine.specs.Cells.{Cell}
 use Rattle.um_fine.specs.Opening.{s_start}
 use Rattle.um_fine.specs.Places.{Todo, Todos}
 use Rattle.um_fine.specs.Processor.{Processor, idle}
-use Rattle.um_fine.specs.Asks.{CpuMay, moves, next_site, says}
+use Rattle.um_fine.specs.Asks.{CpuMay, moves, says, site_at}
 use Rattle.um_fine.specs.Follows.{p_next}
 use Rattle.um_fine.specs.Runs.{state_at}
 use Rattle.um_fine.specs.FineRun.{ByOneOf, IsFineRun, cpu_of, p_start, same_cpu, site_of}
 use Rattle.um_fine.proofs.FineRuns.{runs_push, state_push}
 use Rattle.um_fine.proofs.Keys.{number-back, number-bound, number-sound, same-itself, same-sound}
-use Rattle.um_fine.proofs.Made.{IsSettled, asks-lawfully}
-use Rattle.um_worked_runs.specs.Fine.Evaluate.{Board, SITES, alone, alone_by, asked, fine_course, fine_course_by, first_of, may, next_made, no_site, only_there, opening_board, processor_in, seeds, site_in, stepped}
+use Rattle.um_fine.proofs.Made.{IsApart, IsSettled, asks-lawfully}
+use Rattle.um_worked_runs.specs.Fine.Evaluate.{Board, SITES, alone, alone_by, asked, due_seed, fine_course, fine_course_by, first_of, is_apart, looks_rightly, may, next_at, next_by, next_made, no_site, only_there, opening_board, or_else, processor_in, running_in, seeds, site_in, stepped, tends, tick_seed, ticks_if}
 use Rattle.um_worked_runs.proofs.Fine.Indices.{written-else, written-here, written-length}
 
 module _ (image : Image) where
-  -- an edit that was asked for has the partitions that stand
-  settled : (p : Processor) (todo : Todos) (s : SiteState) (act : FineAct) (moved : Exchange)
-      → IsSettled image p todo s (site_moves image s (says image p todo act moved) (moves image p todo moved))
-  settled p (Todo.edit d q ∷ todo) (SiteState.cell n (Cell.parts parts)) act moved = refl
-  settled p todo s act moved = tt
+  -- an edit that was asked for has the partitions that stand, and nobody is looked for at the scheduler
+  apart : (p : Processor) (s : SiteState) → IsTrue (is_apart image s) → IsApart image p s
+  apart p (SiteState.cell n (Cell.scheduler x)) h = absurd (true≢false (sym h))
+  apart p (SiteState.cell n (Cell.object o)) h = tt
+  apart p (SiteState.cell n (Cell.parts d)) h = tt
+  apart p (SiteState.cell n (Cell.memory m)) h = tt
+  apart p (SiteState.cell n (Cell.heap x)) h = tt
+  apart p (SiteState.cell n (Cell.clock c)) h = tt
+  apart p (SiteState.cell n (Cell.joins j)) h = tt
+  apart p (SiteState.row w) h = tt
+  apart p (SiteState.thread w) h = tt
+  apart p (SiteState.domain w) h = tt
+
+  settled : (p : Processor) (todo : Todos) (s : SiteState) (act : FineAct) (moved : Exchange) → IsTrue (looks_rightly image todo s)
+      → IsSettled image p todo s (site_moves image s (says image p todo act moved) (moves image p todo act moved))
+  settled p (Todo.edit d q ∷ todo) (SiteState.cell n (Cell.parts parts)) act moved h = refl
+  settled p (Todo.look who site before ∷ todo) s act moved h = apart p s h
+  settled p (Todo.handle deadline mark ∷ todo) s act moved h = apart p s h
+  settled p todo s act moved h = tt
 
   -- a step of the k-th processor, which runs p, at a site with this state
-  abbrev IsStep : ℕ → Processor → SiteState → Option FineStep → Type 0
-  IsStep k p s None = Unit {0}
-  IsStep k p s (Some e) = (e.cpu ≡ k) × (e.site ≡ next_site image p) × CpuMay image p e × SiteMay image s e
+  abbrev IsStep : ℕ → Processor → Site → SiteState → Option FineStep → Type 0
+  IsStep k p i s None = Unit {0}
+  IsStep k p i s (Some e) = (e.cpu ≡ k) × (e.site ≡ i) × CpuMay image p e × SiteMay image s e
 
   abbrev AllOf : ℕ → List FineStep → Type 0
   AllOf k [] = Unit {0}
   AllOf k (e ∷ es) = (e.cpu ≡ k) × AllOf k es
 
-  one-sound : (k : ℕ) (p : Processor) (s : SiteState) (e : FineStep) (other : Option FineStep) (b : Bool) → e.cpu ≡ k
-      → may image p s (asked image p s (asked image p s e)) ≡ b → IsStep k p s other
-      → IsStep k p s (elim b as (λ _. Option FineStep) [ true ↦ Some (asked image p s (asked image p s e)) | false ↦ other ])
-  one-sound k p s e other true cpu h rest =
+  one-sound : (k : ℕ) (p : Processor) (i : Site) (s : SiteState) (e : FineStep) (other : Option FineStep) (b : Bool) → e.cpu ≡ k
+      → may image p i s (asked image p s (asked image p s e)) ≡ b → IsStep k p i s other
+      → IsStep k p i s (elim b as (λ _. Option FineStep) [ true ↦ Some (asked image p s (asked image p s e)) | false ↦ other ])
+  one-sound k p i s e other true cpu h rest =
       let parts = and_parts _ _ h in
-      let both = and_parts _ _ parts.1 in
-      let lawful = asks-lawfully image p s (asked image p s e) parts.0 (settled p p.todo s e.act e.moved) both.0 both.1 in
-      (cpu, refl, lawful.0, lawful.1)
-  one-sound k p s e other false cpu h rest = rest
+      let there = and_parts _ _ parts.1 in
+      let looks = and_parts _ _ there.1 in
+      let both = and_parts _ _ looks.1 in
+      let lawful = asks-lawfully image p s (asked image p s e) there.0 (settled p p.todo s e.act e.moved looks.0) both.0 both.1 in
+      (cpu, same-sound _ i parts.0, lawful.0, lawful.1)
+  one-sound k p i s e other false cpu h rest = rest
 
-  first-sound : (k : ℕ) (p : Processor) (s : SiteState) (es : List FineStep) → AllOf k es → IsStep k p s (first_of image p s es)
-  first-sound k p s [] all = tt
-  first-sound k p s (e ∷ es) all =
-      one-sound k p s e (first_of image p s es) (may image p s (asked image p s (asked image p s e))) all.0 refl (first-sound k p s es all.1)
+  first-sound : (k : ℕ) (p : Processor) (i : Site) (s : SiteState) (es : List FineStep) → AllOf k es → IsStep k p i s (first_of image p i s es)
+  first-sound k p i s [] all = tt
+  first-sound k p i s (e ∷ es) all =
+      one-sound k p i s e (first_of image p i s es) (may image p i s (asked image p s (asked image p s e))) all.0 refl (first-sound k p i s es all.1)
 
   -- what stands on a board is what the steps so far have left
   record Stands (cpus : ℕ) (b : Board) (h : List FineStep) : Type 0 where
@@ -69,28 +85,52 @@ module _ (image : Image) where
     made : CpuMay image (processor_in b e.cpu) e
     taken : SiteMay image (site_in b e.site) e
 
-  found : (cpus : ℕ) (b : Board) (k : ℕ) (e : FineStep) → length b.processors ≡ cpus → next_made image b k ≡ Some e → Found cpus b e
-  found cpus b k e long at = by (nat_lt k (length b.processors) && is_site i) refl at
+  -- what the evaluation finds for the k-th processor is a step of it, at a site that there is
+  abbrev IsMade : Board → ℕ → Option FineStep → Type 0
+  IsMade b k None = Unit {0}
+  IsMade b k (Some e) = (e.cpu ≡ k) × IsTrue (is_site e.site) × CpuMay image (processor_in b k) e × SiteMay image (site_in b e.site) e
+
+  at-there : (b : Board) (k : ℕ) (i : Site) (made : Option FineStep) → IsTrue (is_site i) → IsStep k (processor_in b k) i (site_in b i) made → IsMade b k made
+  at-there b k i None there step = tt
+  at-there b k i (Some e) there step =
+      (step.0, subst (λ j. IsTrue (is_site j)) (sym step.1) there, step.2, subst (λ j. SiteMay image (site_in b j) e) (sym step.1) step.3)
+
+  at-sound : (b : Board) (k : ℕ) (es : List FineStep) (i : Site) → AllOf k es → IsMade b k (next_at image b k es i)
+  at-sound b k es i all = by (is_site i) refl
     where
-      p : Processor
-      p = processor_in b k
+      by : (there : Bool) → is_site i ≡ there → IsMade b k (only_there image there (first_of image (processor_in b k) i (site_in b i) es))
+      by true h = at-there b k i (first_of image (processor_in b k) i (site_in b i) es) h (first-sound k (processor_in b k) i (site_in b i) es all)
+      by false h = tt
 
-      i : Site
-      i = next_site image p
+  else-sound : (b : Board) (k : ℕ) (made other : Option FineStep) → IsMade b k made → IsMade b k other → IsMade b k (or_else image made other)
+  else-sound b k (Some e) other h g = h
+  else-sound b k None other h g = g
 
-      of-step : (made : Option FineStep) → made ≡ Some e → IsStep k p (site_in b i) made → IsStep k p (site_in b i) (Some e)
-      of-step made same h = subst (IsStep k p (site_in b i)) same h
+  seeds-of : (k : ℕ) → AllOf k (seeds k)
+  seeds-of k = (refl, (refl, (refl, (refl, tt))))
 
-      by : (there : Bool) → (nat_lt k (length b.processors) && is_site i) ≡ there
-          → only_there image there (first_of image p (site_in b i) (seeds k)) ≡ Some e → Found cpus b e
+  ticks-sound : (b : Board) (k n : ℕ) → IsMade b k (ticks_if image b k n)
+  ticks-sound b k zero = at-sound b k (tick_seed k ∷ []) Site.clock (refl, tt)
+  ticks-sound b k (suc n) = tt
+
+  next-sound : (b : Board) (k : ℕ) (todo : Todos) → IsMade b k (next_by image b k todo)
+  next-sound b k [] =
+      else-sound b k (next_at image b k (seeds k) Site.scheduler) (tends image b k) (at-sound b k (seeds k) Site.scheduler (seeds-of k))
+      (else-sound b k (next_at image b k (due_seed k ∷ []) Site.clock) (ticks_if image b k (running_in image b)) (at-sound b k (due_seed k ∷ []) Site.clock (refl, tt))
+      (ticks-sound b k (running_in image b)))
+  next-sound b k (q ∷ todo) = at-sound b k (seeds k) (site_at image (processor_in b k) (q ∷ todo)) (seeds-of k)
+
+  found : (cpus : ℕ) (b : Board) (k : ℕ) (e : FineStep) → length b.processors ≡ cpus → next_made image b k ≡ Some e → Found cpus b e
+  found cpus b k e long at = by (nat_lt k (length b.processors)) refl at
+    where
+      by : (there : Bool) → nat_lt k (length b.processors) ≡ there → only_there image there (next_by image b k (processor_in b k).todo) ≡ Some e → Found cpus b e
       by true h same =
-          let parts = and_parts _ _ h in
-          let step = of-step (first_of image p (site_in b i) (seeds k)) same (first-sound k p (site_in b i) (seeds k) (refl, (refl, (refl, tt)))) in
+          let step = subst (IsMade b k) same (next-sound b k (processor_in b k).todo) in
           record {
-            cpu = subst (λ n. n < cpus) (sym step.0) (subst (λ n. k < n) long (ltb-true _ _ parts.0));
-            site = subst (λ j. IsTrue (is_site j)) (sym step.1) parts.1;
+            cpu = subst (λ n. n < cpus) (sym step.0) (subst (λ n. k < n) long (ltb-true _ _ h));
+            site = step.1;
             made = subst (λ n. CpuMay image (processor_in b n) e) (sym step.0) step.2;
-            taken = subst (λ j. SiteMay image (site_in b j) e) (sym step.1) step.3;
+            taken = step.3;
           }
       by false h same = absurd (none-some same)
         where

@@ -96,6 +96,7 @@ image =
       scripts = script_0
           ∷ script_1
           ∷ script_2 ∷ [];
+      futexes = [];
     }
 
 -- which thread makes each step, and which one

@@ -59,6 +59,7 @@ image =
           ∷ record { thread = row 0; stack = row 1; script = 0; mode = Mode.Supervisor; priority = pos 0; domain = 0; pool = None; grants = [] } ∷ [];
       scripts = script_0
           ∷ script_1 ∷ [];
+      futexes = [];
     }
 
 -- which thread makes each step, and which one

@@ -8,9 +8,11 @@ use Rattle.um_words.specs.declared.fine.Unseen.{Unseen}
 use Rattle.um_fine.specs.Steps.{Site, Word, Exchange, FineStep}
 use Rattle.um_fine.specs.Answers.{no_event}
 use Rattle.um_fine.specs.Cells.{Cell, quiet_word}
-use Rattle.um_fine.specs.Sites.{SiteState, filled, is_site, is_sort, site_number, site_numbered, s_next, site_takes}
+use Rattle.um_fine.specs.Sites.{SiteState, filled, is_site, is_sort, site_number, site_numbered, s_next, same_site, site_takes}
 use Rattle.um_fine.specs.Processor.{Processor, idle}
-use Rattle.um_fine.specs.Asks.{fits, made_by, next_site}
+use Rattle.um_fine.specs.Asks.{fits, made_by, site_at}
+use Rattle.um_fine.specs.Places.{Todo, Todos}
+use Rattle.um_base.specs.declared.act.Act.{Act}
 use Rattle.um_fine.specs.Follows.{p_next}
 use Rattle.um_fine.specs.Opening.{new_cell, s_start}
 use Rattle.um_worked_runs.specs.Evaluate.{numbers}
@@ -31,40 +33,79 @@ processor_in b k = slice_index_or b.processors k idle
 
 -- how many sites there are
 abbrev pub SITES : ℕ
-SITES = 307
+SITES = 309
 
 -- a step without answers, of which comes a read of a word, a visit or an event
 abbrev pub seed : ℕ → FineAct → FineStep
-seed cpu act = record { cpu = cpu; site = Site.memory; act = act; word = Word.cell (quiet_word 0 0 0); moved = Exchange.nothing }
+seed cpu act = record { cpu = cpu; site = Site.memory; act = act; word = Word.cell (quiet_word 0 0 0 0); moved = Exchange.nothing }
 
 abbrev pub seeds : ℕ → List FineStep
 seeds cpu =
-    seed cpu (FineAct.Unseen Unseen.WordRead) ∷ seed cpu (FineAct.Unseen Unseen.Visit) ∷ seed cpu (FineAct.Shown no_event More.Nothing) ∷ []
+    seed cpu (FineAct.Unseen Unseen.WordRead) ∷ seed cpu (FineAct.Unseen Unseen.Visit) ∷ seed cpu (FineAct.Unseen Unseen.Void)
+    ∷ seed cpu (FineAct.Shown no_event More.Nothing) ∷ []
+
+-- what a processor without a thread may do at the clock
+abbrev pub due_seed : ℕ → FineStep
+due_seed cpu = seed cpu (FineAct.Unseen Unseen.Due)
+
+abbrev pub tick_seed : ℕ → FineStep
+tick_seed cpu = seed cpu (FineAct.Shown (record no_event { act = Act.Tick 0 }) More.Nothing)
 
 module _ (image : Image) where
   -- the processor asks, and the site answers
   abbrev pub asked : Processor → SiteState → FineStep → FineStep
   asked p s e = filled image s (made_by image p e)
 
-  abbrev pub may : Processor → SiteState → FineStep → Bool
-  may p s e = is_sort (next_site image p) s && (site_takes s e.act && fits image p p.todo e)
+  -- nobody is looked for at the scheduler
+  abbrev pub is_apart : SiteState → Bool
+  is_apart (SiteState.cell n (Cell.scheduler s)) = false
+  is_apart s = true
 
-  abbrev pub first_of : Processor → SiteState → List FineStep → Option FineStep
-  first_of p s [] = None
-  first_of p s (e ∷ es) =
-      let made = asked p s (asked p s e) in elim (may p s made) as (λ _. Option FineStep) [ true ↦ Some made | false ↦ first_of p s es ]
+  abbrev pub looks_rightly : Todos → SiteState → Bool
+  looks_rightly (Todo.look who site before ∷ todo) s = is_apart s
+  looks_rightly (Todo.handle deadline mark ∷ todo) s = is_apart s
+  looks_rightly todo s = true
+
+  -- the step is one of this site, which has that state
+  abbrev pub may : Processor → Site → SiteState → FineStep → Bool
+  may p i s e = same_site e.site i && (is_sort e.site s && (looks_rightly p.todo s && (site_takes s e.act && fits image p p.todo e)))
+
+  abbrev pub first_of : Processor → Site → SiteState → List FineStep → Option FineStep
+  first_of p i s [] = None
+  first_of p i s (e ∷ es) =
+      let made = asked p s (asked p s e) in elim (may p i s made) as (λ _. Option FineStep) [ true ↦ Some made | false ↦ first_of p i s es ]
 
   -- where a processor is, and a site
   abbrev pub only_there : Bool → Option FineStep → Option FineStep
   only_there true made = made
   only_there false made = None
 
+  abbrev pub next_at : Board → ℕ → List FineStep → Site → Option FineStep
+  next_at b k es i = only_there (is_site i) (first_of (processor_in b k) i (site_in b i) es)
+
+  -- one that has no thread takes the first that is ready. Where none is, and marks are owed, it takes a due one, and else, where no thread
+  -- runs, it lets time go on
+  abbrev pub running_in : Board → ℕ
+  running_in b = elim (site_in b Site.scheduler) as (λ _. ℕ) [ SiteState.cell n (Cell.scheduler s) ↦ s.running | _ ↦ 0 ]
+
+  abbrev pub or_else : Option FineStep → Option FineStep → Option FineStep
+  or_else (Some e) other = Some e
+  or_else None other = other
+
+  abbrev pub ticks_if : Board → ℕ → ℕ → Option FineStep
+  ticks_if b k zero = next_at b k (tick_seed k ∷ []) Site.clock
+  ticks_if b k (suc n) = None
+
+  abbrev pub tends : Board → ℕ → Option FineStep
+  tends b k = or_else (next_at b k (due_seed k ∷ []) Site.clock) (ticks_if b k (running_in b))
+
+  abbrev pub next_by : Board → ℕ → Todos → Option FineStep
+  next_by b k [] = or_else (next_at b k (seeds k) Site.scheduler) (tends b k)
+  next_by b k (q ∷ todo) = next_at b k (seeds k) (site_at image (processor_in b k) (q ∷ todo))
+
   -- the next step of a processor, where its site takes it now
   abbrev pub next_made : Board → ℕ → Option FineStep
-  next_made b k =
-      let p = processor_in b k in
-      let i = next_site image p in
-      only_there (nat_lt k (length b.processors) && is_site i) (first_of p (site_in b i) (seeds k))
+  next_made b k = only_there (nat_lt k (length b.processors)) (next_by b k (processor_in b k).todo)
 
   -- what comes of a list of processors
   pub record FineCourse : Type 0 where

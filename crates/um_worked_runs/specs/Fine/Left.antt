@@ -1,5 +1,6 @@
 -- What the sites stand for at the end of a worked run: a state of the access-matrix machine, as far as a dump shows it.
 use Rattle.std.specs.Prelude.{ℕ, Bool, List, [], map, length, Option, None, pos}
+use Rattle.um_base.specs.declared.ask.Waiter.{Waiter}
 use Rattle.um_base.specs.declared.image.Image.{Image}
 use Rattle.um_base.specs.declared.limits.TheConstants.{ROWS, THREADS}
 use Rattle.um_base.specs.Regions.{Partitions}
@@ -12,6 +13,7 @@ use Rattle.um_words.specs.declared.row_word.Stage.{Stage}
 use Rattle.um_fine.specs.Steps.{Site}
 use Rattle.um_fine.specs.Answers.{no_row}
 use Rattle.um_fine.specs.Memory.{Bytes}
+use Rattle.um_fine.specs.Clock.{Clock, deadlines}
 use Rattle.um_fine.specs.Cells.{Cell}
 use Rattle.um_fine.specs.Sites.{SiteState}
 use Rattle.um_fine.specs.Processor.{kind_of}
@@ -34,7 +36,15 @@ parts_at_site _ = None
 
 abbrev pub bytes_at_site : SiteState → Bytes
 bytes_at_site (SiteState.cell n (Cell.memory m)) = m
-bytes_at_site _ = record { memory = []; stacks = [] }
+bytes_at_site _ = record { memory = []; stacks = []; futexes = []; noted = [] }
+
+abbrev pub joins_at_site : SiteState → List Waiter
+joins_at_site (SiteState.cell n (Cell.joins j)) = j.waiters
+joins_at_site _ = []
+
+abbrev pub clock_at_site : SiteState → Clock
+clock_at_site (SiteState.cell n (Cell.clock c)) = c
+clock_at_site _ = record { now = 0; marks = [] }
 
 abbrev pub pools_at_site : SiteState → List ℕ
 pools_at_site (SiteState.cell n (Cell.heap h)) = h.pools
@@ -81,6 +91,10 @@ module _ (image : Image) (b : Board) where
         memory = (bytes_at_site (site_in b Site.memory)).memory;
         stacks = (bytes_at_site (site_in b Site.memory)).stacks;
         pools = pools_at_site (site_in b Site.heap);
+        now = (clock_at_site (site_in b Site.clock)).now;
+        armed = deadlines (clock_at_site (site_in b Site.clock)).marks;
+        joins = joins_at_site (site_in b Site.joins);
+        futexes = (bytes_at_site (site_in b Site.memory)).futexes;
       }
 
 -- a thread's line with no priority

@@ -5,118 +5,54 @@ use Rattle.std.specs.List.{list_all, list_any}
 use Rattle.um_base.specs.declared.image.Image.{Image}
 use Rattle.um_base.specs.declared.limits.TheConstants.{ROWS, STATIC_ROWS, THREADS}
 use Rattle.um_base.specs.declared.names.Addr.{Addr}
-use Rattle.um_base.specs.Places.{own_row, thread_of_row}
-use Rattle.um_base.specs.Regions.{Partitions}
-use Rattle.um_machine.specs.declared.contents.Contents.{Contents}
-use Rattle.um_machine.specs.declared.object.Cost.{Cost}
-use Rattle.um_machine.specs.declared.object.Status.{Status}
-use Rattle.um_machine.specs.declared.thread.Life.{Life}
+use Rattle.um_base.specs.Places.{thread_of_row}
 use Rattle.um_machine.specs.Domains.{domain_after}
 use Rattle.um_machine.specs.Memory.{partitions_of}
+use Rattle.um_machine.specs.Order.{Steps}
 use Rattle.um_machine.specs.Objects.{is_free, is_gone}
 use Rattle.um_machine.specs.Run.{opening}
 use Rattle.um_machine.specs.declared.pending.Pending.{Pending}
 use Rattle.um_machine.specs.State.{State, is_started, is_user, object_at, pair_at, thread_at}
 use Rattle.um_machine.specs.Table.{after, domain_at, message_size}
 use Rattle.um_words.specs.declared.fine.FineAct.{FineAct}
-use Rattle.um_words.specs.declared.row_word.Stage.{Stage}
 use Rattle.um_words.specs.Rows.{is_dying}
 use Rattle.um_fine.specs.declared.table.Table.{Table}
 use Rattle.um_fine.specs.Addresses.{row_named}
 use Rattle.um_fine.specs.Context.{Context}
 use Rattle.um_fine.specs.Steps.{FineStep}
 use Rattle.um_fine.specs.Heap.{cost_at}
-use Rattle.um_fine.specs.Objects.{ObjectCell}
-use Rattle.um_fine.specs.Scheduler.{parked_at, told_at}
+use Rattle.um_fine.specs.Scheduler.{is_cut, parked_at, told_at, waits}
+use Rattle.um_fine.specs.Joins.{asleep_at}
 use Rattle.um_fine.specs.Places.{Todo, Todos}
 use Rattle.um_fine.specs.Processor.{Processor, edit_of, fails, key_of, same_key}
-use Rattle.um_refinement.specs.Fine.{Fine, domain, heap, object, one_if, over_processors, parts, row, scheduler, word}
-use Rattle.um_refinement.specs.Lists.{cleaned_pairs, counted, edited, edits, edits_step, has_claimed, has_held, has_loaded, has_steps, is_cleared, is_done, is_move_done, is_recycle, is_wipe, looked, moving, names_row, runs, runs_thread, visited}
+use Rattle.um_refinement.specs.Fine.{Fine, domain, heap, joins, object, one_if, over_processors, parts, row, scheduler, word}
+use Rattle.um_refinement.specs.Lists.{cleaned_pairs, counted, edited, edits, has_claimed, has_held, has_loaded, is_cleared, is_done, is_move_done, is_recycle, is_sleep, is_wipe, looked, moving, names_row, runs, runs_thread, visited}
 use Rattle.um_refinement.specs.Offers.{is_over}
-use Rattle.um_refinement.specs.Threads.{flags_of, is_ended, is_ending, is_ready_there, occurs, places, tellers, told_by}
+use Rattle.um_refinement.specs.Threads.{as_cut, cutters, flags_of, is_ended, is_ending, is_ready_there, occurs, places, tellers, told_by}
 use Rattle.um_refinement.specs.Claims.{claims}
 use Rattle.um_refinement.specs.Objects.{is_reserved, recyclers, status_of, vacaters, wipers}
 use Rattle.um_refinement.specs.Dues.{is_visiting}
 use Rattle.um_refinement.specs.Domains.{reads}
 use Rattle.um_worked_runs.specs.Evaluate.{Choice, Offer, numbers, offered}
-use Rattle.um_worked_runs.specs.Fine.Evaluate.{Board, next_made, opening_board, processor_in, site_in, stepped}
-
--- Equality, as far as it is tested.
-
-abbrev pub same_numbers : List ℕ → List ℕ → Bool
-same_numbers [] [] = true
-same_numbers (x ∷ xs) (y ∷ ys) = x == y && same_numbers xs ys
-same_numbers _ _ = false
-
-abbrev pub same_bool : Bool → Bool → Bool
-same_bool true b = b
-same_bool false b = not b
-
-abbrev pub same_bools : List Bool → List Bool → Bool
-same_bools [] [] = true
-same_bools (x ∷ xs) (y ∷ ys) = same_bool x y && same_bools xs ys
-same_bools _ _ = false
-
-abbrev pub life_number : Life → ℕ
-life_number Life.Unborn = 0
-life_number Life.Living = 1
-life_number Life.Ended = 2
-
-abbrev pub status_number : Status → ℕ
-status_number Status.Free = 0
-status_number Status.Reserved = 1
-status_number Status.Live = 2
-status_number Status.Gone = 3
-
-abbrev pub stage_number : Stage → ℕ
-stage_number Stage.Free = 0
-stage_number Stage.Live = 1
-stage_number Stage.Dying = 2
-stage_number Stage.Cleaning = 3
-
-abbrev pub implies : Bool → Bool → Bool
-implies a b = not a || b
-
-abbrev pub same_cost : Option Cost → Option Cost → Bool
-same_cost None None = true
-same_cost (Some a) (Some b) = a.pool == b.pool && a.bytes == b.bytes
-same_cost _ _ = false
-
-abbrev pub is_nothing : Contents → Bool
-is_nothing Contents.Nothing = true
-is_nothing contents = false
-
-abbrev pub is_empty : ObjectCell → Bool
-is_empty o = is_nothing o.contents && length o.waiters == 0 && not (is_some o.buffer)
-
-abbrev pub parts_length : Option Partitions → ℕ
-parts_length None = 0
-parts_length (Some ps) = length ps + 1
-
--- Which threads, rows and domains are tested.
-pub record Tested : Type 0 where
-  pub cpus : ℕ
-  pub threads : List ℕ
-  pub rows : List ℕ
-  pub domains : List ℕ
-
--- the processors and sites of a board
-abbrev pub fine_of : Image → Tested → Board → Fine
-fine_of image n b = record { image = image; cpus = n.cpus; processors = processor_in b; sites = site_in b }
+use Rattle.um_worked_runs.specs.Fine.Compared.{Tested, fine_of, implies, is_empty, life_number, parts_length, same_bool, same_bools, same_cost, same_numbers, stage_number, status_number}
+use Rattle.um_worked_runs.specs.Fine.Evaluate.{Board, next_made, opening_board, stepped}
+use Rattle.um_worked_runs.specs.Fine.InTime.{is_in_time}
+use Rattle.um_worked_runs.specs.Fine.Listed.{are_blocks, fits, is_framed, is_put_back}
 
 module _ (n : Tested) (f : Fine) (m : State) where
   abbrev pub cpus : List ℕ
   cpus = numbers 0 n.cpus
 
   abbrev pub is_of : Context → Bool
-  is_of c =
+  is_of there =
+      let c = as_cut (cutters f there.thread) there in
       let me = thread_at m c.thread in
       same_numbers c.registers me.registers && length c.pending == length me.pending && same_numbers c.buffer me.buffer
       && c.place.script == me.place.script && c.place.line == me.place.line && c.place.left == me.place.left
       && same_bool (is_user c.mode) (is_user me.mode) && c.stack.0 == me.stack.0
       && same_bool c.ended (is_ended me.life) && is_started me.life
       && list_all (λ x. same_bool (slice_index_or (flags_of c.claims) x false) (slice_index_or me.checked x false)) n.rows
-      && list_all (λ x. nat_lt x ROWS) c.claims
+      && list_all (λ x. nat_lt x ROWS) c.claims && implies (nat_lt 0 (cutters f c.thread)) (waits there.pending)
 
   -- of a thread that a processor runs
   abbrev pub run_is : Context → Bool
@@ -128,7 +64,12 @@ module _ (n : Tested) (f : Fine) (m : State) where
 
   abbrev pub parked_is : ℕ → Option Context → Bool
   parked_is t None = true
-  parked_is t (Some c) = is_of c && c.thread == t && not c.ended
+  parked_is t (Some c) = is_of c && c.thread == t && not c.ended && is_put_back f.image c
+
+  -- one that sleeps is at rest, and holds nothing
+  abbrev pub asleep_is : ℕ → Option Context → Bool
+  asleep_is t None = true
+  asleep_is t (Some c) = is_of c && c.thread == t && not c.ended && length c.pending == 0 && length c.claims == 0
 
   abbrev pub thread_is : ℕ → Bool
   thread_is t =
@@ -138,11 +79,11 @@ module _ (n : Tested) (f : Fine) (m : State) where
       let parked = parked_at (scheduler f) t in
       life_number v.life == life_number me.life && same_bool v.doomed me.doomed && same_bool (is_user v.mode) (is_user me.mode)
       && v.domain == me.domain && nat_le there 1
-      && implies (there == 0) (not (life_number me.life == 1) || (me.doomed && length me.pending == 0))
+      && implies (there == 0) ((not (life_number me.life == 1) || me.doomed) && length me.pending == 0)
       && same_bool (is_some me.told) (is_some (told_by f t n.cpus)) && nat_le (tellers f t) 1
       && one_if v.held == over_processors f (λ p. one_if (runs_thread t p && has_held p))
-      && parked_is t parked
-      && occurs t (scheduler f).ready == one_if (is_ready_there parked (told_at (scheduler f) t))
+      && parked_is t parked && asleep_is t (asleep_at (joins f) t)
+      && occurs t (scheduler f).ready == one_if (is_ready_there parked (told_at (scheduler f) t) (is_cut (scheduler f) t))
 
   abbrev pub cleans_it : ℕ → ℕ → Bool
   cleans_it x k = nat_lt 0 (counted (is_recycle x) (f.processors k).todo)
@@ -229,56 +170,24 @@ module _ (n : Tested) (f : Fine) (m : State) where
   reply_is p None = true
   reply_is p (Some d) = same_bool (fails p.reply) (not (is_some (domain_at m d)))
 
-  -- the own parts of new threads that were started and are still to be added
+  -- the own parts of threads that were started or roused and are still to be added: they have no note
   abbrev pub added_are : Todos → Bool
   added_are [] = true
-  added_are (Todo.add c ∷ todo) = is_of c && not c.ended && length c.pending == 0 && added_are todo
+  added_are (Todo.add c ∷ todo) = is_of c && not c.ended && length c.pending == 0 && not (is_some c.noted) && added_are todo
   added_are (Todo.show q rest ∷ todo) = true
   added_are (q ∷ todo) = added_are todo
 
-  -- what stands behind a step that belongs to an event
-  abbrev pub is_behind : Todo → Todos → Bool
-  is_behind Todo.hold (Todo.read_claim None ∷ Todo.region_load ∷ Todo.show q rest ∷ Todo.read_done None ∷ Todo.let_go ∷ []) = true
-  is_behind Todo.hold (Todo.show q rest ∷ Todo.let_go ∷ Todo.add c ∷ []) = true
-  is_behind Todo.hold todo = false
-  is_behind Todo.let_go [] = true
-  is_behind Todo.let_go (Todo.add c ∷ []) = true
-  is_behind Todo.let_go todo = false
-  is_behind (Todo.read_claim None) (Todo.region_load ∷ Todo.show q rest ∷ Todo.read_done None ∷ Todo.let_go ∷ []) = true
-  is_behind (Todo.read_claim None) todo = false
-  is_behind (Todo.read_claim (Some d)) (Todo.show (Pending.DomMove e who) rest ∷ []) = d == e
-  is_behind (Todo.read_claim (Some d)) todo = false
-  is_behind (Todo.read_done None) (Todo.let_go ∷ []) = true
-  is_behind (Todo.read_done None) todo = false
-  is_behind (Todo.read_done (Some d)) (Todo.show (Pending.DomMove e who) rest ∷ []) = d == e
-  is_behind (Todo.read_done (Some d)) todo = false
-  is_behind Todo.region_load (Todo.show q rest ∷ Todo.read_done None ∷ Todo.let_go ∷ []) = true
-  is_behind Todo.region_load todo = false
-  is_behind (Todo.write_claim d) (Todo.edit e q ∷ Todo.show r rest ∷ []) = d == e && edits_step d q && edits_step d r
-  is_behind (Todo.write_claim d) todo = false
-  is_behind (Todo.edit d q) (Todo.show r rest ∷ []) = edits_step d q && edits_step d r
-  is_behind (Todo.edit d q) todo = false
-  is_behind (Todo.size_look x) todo = elim (looked todo) as (λ _. Bool) [ None ↦ false | Some a ↦ x == row_named f.image a ]
-  is_behind (Todo.add c) todo = not (has_steps todo) && length c.claims == 0
-  is_behind Todo.park todo = not (has_steps todo)
-  is_behind Todo.done todo = not (has_steps todo)
-  is_behind q todo = true
-
-  -- the permission on a thread's own object isn't passed on
-  abbrev pub is_others : ℕ → Todo → Bool
-  is_others own (Todo.pass who x) = not (x == own)
-  is_others own q = true
-
-  abbrev pub is_framed : Todos → Bool
-  is_framed [] = true
-  is_framed (q ∷ todo) = is_behind q todo && is_framed todo
+  -- the drops of an end begin at the row that is visited next, or at a lower one
+  abbrev pub drops_from : ℕ → Steps → Bool
+  drops_from x (Pending.Drops from ∷ rest) = nat_le from x
+  drops_from x steps = true
 
   abbrev pub processor_is : ℕ → Bool
   processor_is k =
       let p = f.processors k in
       let me = thread_at m p.context.thread in
-      implies (runs p) (run_is p.context) && implies (list_any is_done p.todo) (done_is p.context) && added_are p.todo && is_framed p.todo && list_all names_row p.todo
-      && list_all (is_others (own_row f.image p.context.thread)) p.todo && size_is p (looked p.todo) && reply_is p (moving p.todo)
+      implies (runs p) (run_is p.context) && implies (list_any is_done p.todo && not (list_any is_sleep p.todo)) (done_is p.context) && added_are p.todo && list_all names_row p.todo
+      && is_framed f.image p.todo && are_blocks f.image p.todo && fits f.image p.context p.todo && size_is p (looked p.todo) && reply_is p (moving p.todo)
       && implies (has_held p) (p.domain == (word f p.context.thread).domain)
       && implies (list_any is_move_done p.todo) (not (fails p.reply))
       && implies (not (runs p)) (length p.context.claims == 0)
@@ -288,6 +197,7 @@ module _ (n : Tested) (f : Fine) (m : State) where
       && table_stands p.table
       && implies (has_loaded p) (table_loaded p p.table)
       && implies (runs p && is_visiting p.context.pending) (list_all (λ x. implies (slice_index_or me.due x false) (nat_le (visited p.todo) x)) n.rows)
+      && implies (runs p) (drops_from (visited p.todo) p.context.pending) && nat_le (length me.due) ROWS
 
   abbrev pub is_related : Bool
   is_related =
@@ -297,6 +207,7 @@ module _ (n : Tested) (f : Fine) (m : State) where
       && length (heap f).free == ROWS && length (heap f).costs == ROWS
       && length (scheduler f).parked == THREADS && length (scheduler f).told == THREADS
       && (scheduler f).running == over_processors f (λ p. one_if (runs p))
+      && is_in_time n f m
 
 -- The access-matrix machine along a run: its state, and the choices of the steps to come.
 pub record Below : Type 0 where

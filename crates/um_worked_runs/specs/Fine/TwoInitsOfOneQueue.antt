@@ -56,6 +56,7 @@ image =
           ∷ record { thread = row 2; stack = row 3; script = 1; mode = Mode.User; priority = pos 0; domain = 0; pool = Some 0; grants = row 4 ∷ [] } ∷ [];
       scripts = script_0
           ∷ script_1 ∷ [];
+      futexes = [];
     }
 
 -- which thread makes each step, and which one
@@ -122,7 +123,7 @@ processors =
     ∷ 1 ∷ 1 ∷ 0 ∷ 1 ∷ 0 ∷ 0 ∷ 0 ∷ 0 ∷ 1 ∷ 1 ∷ 1 ∷ 0 ∷ 1 ∷ 0 ∷ 1 ∷ 0 ∷ 0 ∷ 0 ∷ 0 ∷ 1 ∷ 0 ∷ 1 ∷ 0 ∷ 1 ∷ 0 ∷ 1
     ∷ 0 ∷ 1 ∷ 0 ∷ 0 ∷ 1 ∷ 0 ∷ 1 ∷ 1 ∷ 1 ∷ 0 ∷ 0 ∷ 0 ∷ 1 ∷ 0 ∷ 1 ∷ 1 ∷ 0 ∷ 0 ∷ 1 ∷ 1 ∷ 0 ∷ 0 ∷ 0 ∷ 0 ∷ 0 ∷ 0
     ∷ 1 ∷ 0 ∷ 1 ∷ 0 ∷ 1 ∷ 0 ∷ 0 ∷ 1 ∷ 1 ∷ 1 ∷ 1 ∷ 1 ∷ 1 ∷ 0 ∷ 1 ∷ 0 ∷ 1 ∷ 0 ∷ 0 ∷ 0 ∷ 1 ∷ 1 ∷ 1 ∷ 0 ∷ 0 ∷ 1
-    ∷ 1 ∷ 0 ∷ 0 ∷ 0 ∷ 1 ∷ 0 ∷ 0 ∷ 0 ∷ 1 ∷ 0 ∷ 0 ∷ 1 ∷ 0 ∷ 0 ∷ 1 ∷ 1 ∷ 0 ∷ 1 ∷ 1 ∷ 1 ∷ 1 ∷ 1 ∷ 1 ∷ []
+    ∷ 1 ∷ 0 ∷ 0 ∷ 0 ∷ 1 ∷ 0 ∷ 0 ∷ 0 ∷ 1 ∷ 0 ∷ 0 ∷ 1 ∷ 0 ∷ 0 ∷ 0 ∷ 1 ∷ 1 ∷ 0 ∷ 1 ∷ 1 ∷ 1 ∷ 1 ∷ 1 ∷ 1 ∷ 1 ∷ []
 
 -- the steps: processor, site, the step's number there, and which unseen step it is
 abbrev pub steps : List Brief
@@ -172,14 +173,15 @@ steps =
     ∷ (1, 116, 2, 2) ∷ (1, 117, 2, 2) ∷ (1, 118, 2, 2) ∷ (0, 119, 1, 2) ∷ (0, 120, 1, 2) ∷ (1, 119, 2, 2)
     ∷ (1, 120, 2, 2) ∷ (0, 121, 1, 2) ∷ (0, 122, 1, 2) ∷ (0, 123, 1, 2) ∷ (1, 121, 2, 2) ∷ (0, 124, 1, 2)
     ∷ (0, 125, 1, 2) ∷ (0, 126, 1, 2) ∷ (1, 122, 2, 2) ∷ (0, 127, 1, 2) ∷ (0, 3, 3, 0) ∷ (1, 123, 2, 2)
-    ∷ (0, 2, 3, 0) ∷ (0, 2, 4, 1) ∷ (1, 124, 2, 2) ∷ (1, 125, 2, 2) ∷ (0, 306, 5, 17) ∷ (1, 126, 2, 2)
-    ∷ (1, 127, 2, 2) ∷ (1, 1, 3, 0) ∷ (1, 0, 3, 0) ∷ (1, 0, 4, 1) ∷ (1, 306, 6, 17) ∷ []
+    ∷ (0, 308, 1, 27) ∷ (0, 2, 3, 0) ∷ (0, 2, 4, 1) ∷ (1, 124, 2, 2) ∷ (1, 125, 2, 2) ∷ (0, 306, 5, 17)
+    ∷ (1, 126, 2, 2) ∷ (1, 127, 2, 2) ∷ (1, 1, 3, 0) ∷ (1, 308, 2, 27) ∷ (1, 0, 3, 0) ∷ (1, 0, 4, 1)
+    ∷ (1, 306, 6, 17) ∷ []
 
 pub makes : whole_fine_run image 2 processors ≡ record { steps = steps; events = events; is_lawful = true; is_complete = true; dump = without_priorities dump }
 unfolding blank
 makes = refl
 
 -- before each step and after the last one the relation holds
-pub is_related : related_steps image (record { cpus = 2; threads = 0 ∷ 1 ∷ []; rows = 0 ∷ 1 ∷ 2 ∷ 3 ∷ 4 ∷ []; domains = 0 ∷ [] }) processors choices ≡ 284
+pub is_related : related_steps image (record { cpus = 2; threads = 0 ∷ 1 ∷ []; rows = 0 ∷ 1 ∷ 2 ∷ 3 ∷ 4 ∷ []; domains = 0 ∷ [] }) processors choices ≡ 286
 unfolding blank
 is_related = refl

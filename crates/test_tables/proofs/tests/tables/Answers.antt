@@ -11,6 +11,6 @@ all-alike ws before n w items none first =
     subst (λ (all : List ThreadWord). All in_domains all) (sym (items ∙ ap (λ (b : List ThreadWord). take 32 b ++ replicate n w) none))
     (All-replicate in_domains n w (omega (arith, first)))
 
-pub new-requires-4-clause-named : goal.new-requires-4-clause-named
-new-requires-4-clause-named c =
+pub new-requires-6-clause-named : goal.new-requires-6-clause-named
+new-requires-6-clause-named c =
     all-alike c.resize-2.new.self.items c.new-threads.result.items _ c.living.result c.in_ok-resize-2.ensures.items c.new-threads.ensures.items c.living.ensures

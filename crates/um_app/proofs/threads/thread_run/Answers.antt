@@ -1,4 +1,4 @@
-use Rattle.std.proofs.Common.{◌≡◌, ◌≤◌, ℕ, arith, subst}
+use Rattle.std.proofs.Common.{◌≡◌, ◌≤◌, ℕ, arith, subst, sym}
 use Rattle.um_base.specs.declared.limits.TheConstants.{STATIC_ROWS}
 use Rattle.um_laws.proofs.ObeyLemmas.{obeys}
 use Rattle.um_invariants.specs.Described.{IsDescribed}
@@ -22,8 +22,8 @@ returns g c =
         steps = steps;
         board = board;
         shows = shows;
-        in_order = λ few. in_order image c.args.cpus steps _ (one few) board.run shows (c.one_order.ensures image steps given);
-        picked = λ few pick. picked image c.args.cpus steps pick (one few) board.run board.over (c.one_whole.ensures.picked image pick steps);
+        in_order = λ few. in_order image c.args.cpus steps _ (one few) board.run (board.alone (sym (one few))) shows (c.one_order.ensures image steps given);
+        picked = λ few pick. picked image c.args.cpus steps pick (one few) board.run (board.alone (sym (one few))) board.over (c.one_whole.ensures.picked image pick steps);
         few = c.in_ok-ran.ensures.few;
         laws = obeys image _ end.last given end.is_run;
       };

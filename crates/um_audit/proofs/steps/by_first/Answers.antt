@@ -1,7 +1,8 @@
 use Rattle.std.proofs.Common.{sym}
-use Rattle.um_audit.proofs.StepLemmas.{line-first}
+use Rattle.um_audit.proofs.StepLemmas.{first-choice}
 use Rattle.um_audit.proofs.steps.by_first.Goals as goal
 
-pub returns-in-Some-clause-yes : goal.returns-in-Some-clause-yes
-returns-in-Some-clause-yes c = λ h.
-    line-first c.args.image.now c.args.line.now c.args.matrix.now c.by_step.new.matrix c.args.t c.in-Some.step (sym c.in-Some.ensures.value) (c.by_step.ensures.yes h)
+pub returns-in-Some-row_for-clause-some : goal.returns-in-Some-row_for-clause-some
+returns-in-Some-row_for-clause-some c =
+    let found = c.in-Some-row_for.ensures in
+    first-choice c.args.image.now c.args.line.now c.args.tables.now c.args.t c.in-Some-row_for.row c.in-Some.step (sym c.in-Some.ensures.value) c.in-Some.ensures.sound found.inside found.found

@@ -1,25 +1,7 @@
-use Rattle.std.proofs.Common.{ℕ, sym, ap, ◌∙◌, arith, length, List}
-use Rattle.um_machine.specs.declared.thread.Thread.{Thread}
-use Rattle.um_matrix.proofs.OfferLemmas.{below-next}
-use Rattle.um_audit.specs.Steps.{IsNoThreadsLine}
-use Rattle.um_audit.proofs.StepLemmas.{none-below, none-moved}
+use Rattle.std.proofs.Common.{subst}
+use Rattle.um_machine.specs.State.{State}
+use Rattle.um_audit.specs.Steps.{IsNoStepLine}
 use Rattle.um_audit.proofs.steps.takes_line.Goals as goal
 
-pub loop-t-preserved : goal.loop-t-preserved
-loop-t-preserved c =
-    let room = c.loop-t.invariant.room in
-    let more = c.loop-t.invariant.more in
-    let grows = c.by_named.ensures.capacity in
-    record {
-      room = omega (arith, room, grows);
-      more = omega (arith, more, grows);
-      same = c.by_named.ensures.same c.if-by_named.false ∙ c.loop-t.invariant.same;
-      none =
-          below-next (λ (t : ℕ). IsNoThreadsLine c.args.image.now c.args.line.now t c.args.matrix.now) c.loop-t.t c.loop-t.invariant.none
-          (none-moved c.args.image.now c.args.line.now c.args.matrix.now c.loop-t.matrix c.loop-t.t c.loop-t.invariant.same (c.by_named.ensures.no c.if-by_named.false));
-    }
-
-pub returns-clause-no : goal.returns-clause-no
-returns-clause-no c = λ _.
-    none-below c.args.image.now c.args.line.now c.args.matrix.now c.loop-t.t (ap (λ (ts : List Thread). length ts) (sym c.threads-threads.ensures.value) ∙ c.threads-threads.ensures.all)
-    (omega (arith, c.loop-t-test.false, c.requires.names.all)) c.loop-t.invariant.none
+pub returns-in-None-clause-no : goal.returns-in-None-clause-no
+returns-in-None-clause-no c = λ _. subst (λ (s : State). IsNoStepLine c.args.image.now c.args.line.now s) c.tables.ensures c.in-None.ensures.none

@@ -8,7 +8,9 @@ use Rattle.um_words.specs.declared.thread_word.ThreadWord.{ThreadWord}
 use Rattle.um_words.specs.declared.dom_word.DomWord.{DomWord}
 use Rattle.um_site.specs.declared.view.View.{View}
 use Rattle.um_fine.specs.Cells.{Cell}
+use Rattle.um_fine.specs.Clock.{Clock}
 use Rattle.um_fine.specs.Heap.{Heap}
+use Rattle.um_fine.specs.Joins.{Joins}
 use Rattle.um_fine.specs.Memory.{Bytes}
 use Rattle.um_fine.specs.Scheduler.{Scheduler}
 use Rattle.um_fine.specs.Sites.{SiteState}
@@ -18,7 +20,7 @@ use Rattle.um_tables.specs.declared.domain_cell.DomainCell.{DomainCell}
 use Rattle.um_tables.specs.declared.object_cell.ObjectCell.{ObjectCell}
 use Rattle.um_opening.specs.Opened.{AreDomains, AreParts, AreRows, AreThreads}
 use Rattle.um_board.specs.Contents.{Opens}
-use Rattle.um_board.proofs.FromTables.{domains-are, heap-is, memory-is, objects-are, parts-are, rows-are, scheduler-is, threads-are}
+use Rattle.um_board.proofs.FromTables.{domains-are, heap-is, joins-is, memory-is, objects-are, parts-are, rows-are, scheduler-is, threads-are}
 use Rattle.um_board.proofs.first_board.opening.Goals as goal
 
 pub first_words-requires-clause-rows : goal.first_words-requires-clause-rows
@@ -57,6 +59,13 @@ first_contents-requires-clause-heap c =
 pub first_contents-requires-clause-scheduler : goal.first_contents-requires-clause-scheduler
 first_contents-requires-clause-scheduler c =
     scheduler-is c.args.image.now c.in_ok-tables.tables c.in_ok-tables.ensures.sites ∙ ap (λ (s : Scheduler). SiteState.cell 0 (Cell.scheduler s)) (sym c.into_parts-rows.ensures.scheduler)
+
+pub first_contents-requires-clause-clock : goal.first_contents-requires-clause-clock
+first_contents-requires-clause-clock c = ap (λ (k : Clock). SiteState.cell 0 (Cell.clock k)) (sym c.in_ok-clock.ensures.0)
+
+pub first_contents-requires-clause-joins : goal.first_contents-requires-clause-joins
+first_contents-requires-clause-joins c =
+    joins-is c.args.image.now c.in_ok-tables.tables c.in_ok-tables.ensures.sites ∙ ap (λ (j : Joins). SiteState.cell 0 (Cell.joins j)) (sym c.into_parts-rows.ensures.joins)
 
 pub make-cells-requires-clause-opens : goal.make-cells-requires-clause-opens
 make-cells-requires-clause-opens c k x at =

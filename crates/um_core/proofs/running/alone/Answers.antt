@@ -1,4 +1,4 @@
-use Rattle.std.proofs.Common.{◌≡◌, ℕ, ◌+◌, ◌≤◌, ◌∙◌, ap, arith}
+use Rattle.std.proofs.Common.{◌∙◌, ap, arith}
 use Rattle.um_steps.specs.Given.{IsGiven}
 use Rattle.um_core.specs.Cores.{Core}
 use Rattle.um_core.proofs.AloneRuns.{alone-goes, alone-is, alone-opens, alone-over, alone-room, alone-short}

@@ -1,4 +1,4 @@
-use Rattle.std.proofs.Common.{◌≡◌, ℕ, List, ap, arith, length, subst, sym}
+use Rattle.std.proofs.Common.{List, ap, arith, length, subst, sym}
 use Rattle.std.proofs.lemmas.Result.{IfOk-weaker}
 use Rattle.um_base.specs.declared.act.Event.{Event}
 use Rattle.um_invariants.specs.Described.{IsDescribed}
@@ -6,7 +6,7 @@ use Rattle.um_machine.specs.Run.{IsRun}
 use Rattle.um_machine.specs.State.{State}
 use Rattle.um_refinement.specs.After.{left_by}
 use Rattle.um_refinement.specs.Room.{CanRun}
-use Rattle.um_tables.specs.Sited.{Sited, state_at}
+use Rattle.um_tables.specs.Sited.{state_at}
 use Rattle.um_closing.specs.Agreement.{AgreeInDump}
 use Rattle.um_core.specs.Ended.{HasEnded, HasStopped}
 use Rattle.um_core.proofs.Counts.{can-count}
@@ -23,7 +23,7 @@ returns c =
     (λ sites stopped.
     let steps = stopped.steps in
     let fine = c.every_order.ensures.fine image c.args.cpus c.args.pick steps stopped.picked in
-    let most = c.longest_fine_run.ensures image c.args.cpus steps given fine in
+    let most = c.longest_fine_run.ensures image c.args.cpus steps given can.few fine in
     let light = given.lawful.light in
     let counts = can-count image steps (omega (arith, most, light)) c.args.cpus in
     let end = c.every_closing.ensures.complete image c.args.cpus steps given can fine (λ e by takes. stopped.picked.over e (record { makes = by; takes = takes })) counts in

@@ -51,7 +51,7 @@ returns-clause-board g c =
     let run = c.every_played_board.ensures.run image c.args.cpus ended.view _ _ _ ended.steps is.0 is.1 ended.played c.merge.new.room.items
     (λ order is. c.merge.ensures order (subst (λ (l : List Log). IsOrder l order) (sym c.as_slice.ensures.value) is)) in
     let over = c.every_played_board.ensures.over image c.args.cpus ended.view _ _ _ ended.steps is.0 is.1 ended.played ended.saw run.0 run.2 in
-    (run.0, left-on image c.args.cpus _ ended.view _ ended.steps ended.seen ended.played run.0 run.2 over run.4, c.into_events.ensures ∙ ap events_of (sym run.1) ∙ shown-noted run.0)
+    (run.0, left-on image c.args.cpus _ ended.view _ ended.steps ended.seen ended.played ended.alone run.0 run.2 over run.4, c.into_events.ensures ∙ ap events_of (sym run.1) ∙ shown-noted run.0)
 
 pub returns-clause-closes : goal.returns-clause-closes
 returns-clause-closes g c =
@@ -59,7 +59,7 @@ returns-clause-closes g c =
     let is = runs-on image c.args.cpus c.requires.lawful c.len-objects.ensures.value c.len-objects.ensures.few c.len-domains.ensures.value c.len-domains.ensures.few c.requires.some c.requires.few in
     let ended = c.in_ok-logs.ensures in
     let (steps, has, shows) = returns-clause-board g c in
-    let most = c.longest_fine_run.ensures image c.args.cpus steps is.0 has.run in
+    let most = c.longest_fine_run.ensures image c.args.cpus steps is.0 is.1.few has.run in
     let light = is.0.lawful.light in
     let end = c.every_closing.ensures.complete image c.args.cpus steps is.0 is.1 has.run
     (λ e by takes. has.over e (record { makes = by; takes = takes })) (can-count image steps (omega (arith, most, light)) c.args.cpus) in
@@ -82,6 +82,6 @@ returns-clause-few g c =
     let is = runs-on image c.args.cpus c.requires.lawful c.len-objects.ensures.value c.len-objects.ensures.few c.len-domains.ensures.value c.len-domains.ensures.few c.requires.some c.requires.few in
     let board = returns-clause-board g c in
     let few = shown-few board.0 in
-    let most = c.longest_fine_run.ensures image c.args.cpus board.0 is.0 board.1.run in
+    let most = c.longest_fine_run.ensures image c.args.cpus board.0 is.0 is.1.few board.1.run in
     let same = ap length board.2 in
     omega (arith, few, most, same)

@@ -11,7 +11,7 @@ run_all-requires-clause-given g c κs within = c.requires.lawful
 
 pub returns : goal.returns
 returns g c =
-    let it = c.gather.ensures in
+    let it = c.gather-seat.ensures in
     let all = c.in_ok-all.all in
     let new = c.run_all.new.cpus in
     let rest : List Cpu = drop (length new) all.items in
@@ -23,5 +23,5 @@ returns g c =
     let many = c.in_ok-all.ensures.count in
     omega (arith, taken, long, count, value, all.ok.0, many)
     ) in
-    all-ended c.args.image.now c.gather.new.seat.token.me.0 (length (take all.len (new ++ rest))) c.args.cpus c.in-Ok.closed c.gather.new.logs.items same c.in-Ok.ensures.closed.0 it.knows (c.in-Ok.ensures.sites.0 ∙ c.in_ok-board.ensures.seated.words) (c.in-Ok.ensures.sites.1 ∙ c.in_ok-board.ensures.slots)
+    all-ended c.args.image.now c.gather-seat.result.token.me.0 (length (take all.len (new ++ rest))) c.args.cpus c.in-Ok.closed c.gather-seat.new.logs.items same c.requires.some c.in-Ok.ensures.closed.0 it.knows (c.in-Ok.ensures.sites.0 ∙ c.in_ok-board.ensures.seated.words) (c.in-Ok.ensures.sites.1 ∙ c.in_ok-board.ensures.slots)
     (c.in-Ok.ensures.cells it.knows.turn)

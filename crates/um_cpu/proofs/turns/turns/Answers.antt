@@ -22,4 +22,4 @@ returns-in-Quiet-clause-out g c =
     let rests = subst (λ (k : ℕ). Rests c.args.image.now k (whole before.processor) (whole last.processor) before.place.seat before.place.log.items last.place.seat last.place.log.items c.in-Quiet.word)
     c.loop.invariant.number c.in-Quiet.ensures.told.0 in
     plays-out c.args.image.now first.number (whole first.processor) (whole before.processor) (whole last.processor) first.place.seat first.place.log.items
-    before.place.seat before.place.log.items last.place.seat last.place.log.items c.in-Quiet.word c.loop.invariant.reaches rests
+    before.place.seat before.place.log.items last.place.seat last.place.log.items c.in-Quiet.word c.loop.invariant.reaches rests c.in-Quiet.ensures.told.1

@@ -1,6 +1,7 @@
 use Rattle.um_laws.proofs.AccessLemmas.{was_allowed, is_verdict}
 use Rattle.um_laws.proofs.RecycleLemmas.{is_unheld, is_of_its_creator}
 use Rattle.um_laws.proofs.ServiceLemmas.{is_in_order_of_service}
+use Rattle.um_laws.proofs.TimeLemmas.{begins_none, ticks_between, watches}
 use Rattle.um_laws.proofs.Theorems.{owned_event, marks_turn, lives_between, was_alive, holds_until}
 use Rattle.um_laws.proofs.ObeyLemmas.{obeys}
 use Rattle.um_laws.proofs.laws.every_run.Goals as goal
@@ -28,6 +29,15 @@ returns-clause-ends c = λ image before event a s s2 given run step e. was_alive
 
 pub returns-clause-holds : goal.returns-clause-holds
 returns-clause-holds c = λ image before middle check recycle a kind want s s2 given run step e calls. holds_until image before middle check recycle a kind want s s2 given run step e calls
+
+pub returns-clause-deadlines : goal.returns-clause-deadlines
+returns-clause-deadlines c = λ image before middle arm late d who s s2 given run step e f here same. ticks_between image before middle arm late d who s s2 given run step e f here same
+
+pub returns-clause-aborts : goal.returns-clause-aborts
+returns-clause-aborts c = λ image before middle abort begin who script line s s2 given run step e here free. begins_none image before middle abort begin who script line s s2 given run step e here free
+
+pub returns-clause-watches : goal.returns-clause-watches
+returns-clause-watches c = λ image before event s s2 run step. watches s s2 event step
 
 pub returns-clause-obeys : goal.returns-clause-obeys
 returns-clause-obeys c = λ image events s given run. obeys image events s given run

@@ -24,8 +24,8 @@ returns c =
     let s = c.args.state.now in
     let threads = c.threads.result.now in
     let long : length s.threads ≡ THREADS = ap (λ (ts : List Thread). length ts) (sym c.threads.ensures.value) ∙ c.threads.ensures.all in
-    ok-more (λ (kept : Scheduler). kept ≡ scheduler_of c.ready.result.items (indexed resting 0 threads) 0) (λ (kept : Scheduler). Cell.scheduler kept ≡ scheduler_cell s)
-    (λ kept e. ap Cell.scheduler (e ∙ ap (λ (ready : List ℕ). scheduler_of ready (indexed resting 0 threads) 0) c.ready.ensures
-    ∙ ap (λ (ts : List Thread). scheduler_of (map (boot_index s) s.image.boots) (indexed resting 0 ts) 0) c.threads.ensures.value
+    ok-more (λ (kept : Scheduler). kept ≡ scheduler_of c.ready.result.items (indexed resting 0 threads) 0 0) (λ (kept : Scheduler). Cell.scheduler kept ≡ scheduler_cell s)
+    (λ kept e. ap Cell.scheduler (e ∙ ap (λ (ready : List ℕ). scheduler_of ready (indexed resting 0 threads) 0 0) c.ready.ensures
+    ∙ ap (λ (ts : List Thread). scheduler_of (map (boot_index s) s.image.boots) (indexed resting 0 ts) 0 0) c.threads.ensures.value
     ∙ scheduler-is s THREADS long))
     c.at_rest.result c.at_rest.ensures

@@ -9,4 +9,4 @@ returns-clause-unnoted c =
 
 pub returns-clause-saw : goal.returns-clause-saw
 returns-clause-saw c =
-    record { view = c.args.self.now.seat.token.me.0; of = record { image = refl; opening = refl; name = refl; made = refl; filled = refl }; moment = c.look.ensures.moment }
+    record { view = c.args.self.now.seat.token.me.0; of = record { image = refl; opening = refl; name = refl; made = refl; children = refl; lists = refl; filled = refl }; moment = c.look.ensures.moment }

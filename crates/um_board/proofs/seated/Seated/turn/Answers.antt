@@ -12,4 +12,4 @@ returns-clause-unnoted g c = unnoted-then _ _ _ _ _ _ c.look.ensures.unnoted c.t
 
 pub returns-clause-turn : goal.returns-clause-turn
 returns-clause-turn g c =
-    asked-first g.K.Kind.cell c.args.image.now c.args.self.now c.look.new.self c.turn_at_once.new.self c.args.site c.turn_at_once.result c.look.ensures.unnoted c.look.ensures.log c.turn_at_once.ensures.turn
+    asked-first g.K.Kind.cell g.K.Kind.room c.args.image.now c.args.self.now c.look.new.self c.turn_at_once.new.self c.args.site c.turn_at_once.result c.look.ensures.unnoted c.look.ensures.log c.turn_at_once.ensures.turn

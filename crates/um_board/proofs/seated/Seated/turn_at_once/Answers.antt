@@ -1,10 +1,12 @@
-use Rattle.std.proofs.Common.{rules, ◌≡◌, ℕ, ◌%◌, List, Some, refl, subst, sym, ap, ◌∙◌}
+use Rattle.std.proofs.Common.{rules, ◌≡◌, ℕ, ◌%◌, List, Option, Some, refl, subst, sym, ap, ◌∙◌}
+use Rattle.um_base.specs.declared.image.Image.{Image}
 use Rattle.um_merge.specs.declared.logged.Logged.{Logged}
 use Rattle.um_site.specs.Calls.{SameSeat}
 use Rattle.um_site.specs.Tells.{Took, returning}
 use Rattle.um_site.specs.declared.seat.Seat.{Seat}
 use Rattle.um_site.specs.declared.view.View.{View}
 use Rattle.um_board.specs.Contents.{Follows, Known, Opens, known}
+use Rattle.um_board.specs.Kept.{HasRoom}
 use Rattle.um_board.specs.NextSteps.{NextGoes}
 use Rattle.um_board.specs.Saw.{Hinders, OthersAt, SawCell}
 use Rattle.um_board.specs.Seated.{Unnoted}
@@ -17,7 +19,7 @@ use Rattle.um_board.proofs.seated.Seated.turn_at_once.Goals as goal
 -- the turn was taken at some moment, when the cell had these contents
 saw-at : (s t : Seat Known) (i w : ℕ) (c : Known) → w % 2 ≡ 0 → Took Opens Follows NextGoes s.token.me.0 i w (Some c) t.token.me.0 → SawCell s i w c
 saw-at s t i w c free took =
-    record { saw = record { view = s.token.me.0; of = record { image = refl; opening = refl; name = refl; made = refl; filled = refl }; moment = took.moment }; free = free; contents = took.contents }
+    record { saw = record { view = s.token.me.0; of = record { image = refl; opening = refl; name = refl; made = refl; children = refl; lists = refl; filled = refl }; moment = took.moment }; free = free; contents = took.contents }
 
 -- it was taken, and given back at once
 took-none : (s t u : Seat Known) (i j w : ℕ) (c : Known) (log : List Logged) → SameSeat s t → Took Opens Follows NextGoes s.token.me.0 i w (Some c) t.token.me.0
@@ -51,14 +53,14 @@ returns-in-None-clause-unnoted g c =
 pub returns-in-None-clause-turn : goal.returns-in-None-clause-turn
 returns-in-None-clause-turn g c =
     let told = c.in-Ok.ensures.told in
-    (search rules, Hinders.worn _ c.in-Ok.held.contents c.requires.site.0 (saw-at c.args.self.now.seat c.take.new.seat _ _ _ told.0 told.1) (λ n less same. c.in-None.ensures n less (same ∙ c.counts-ready.ensures n)))
+    (search rules, Hinders.worn _ c.in-Ok.held.contents c.requires.site.0 (saw-at c.args.self.now.seat c.take.new.seat _ _ _ told.0 told.1) (λ n less same. c.in-None.ensures n less (same ∙ c.counts-counts.ensures n)))
 
 pub out_of-cell-requires : goal.out_of-cell-requires
 out_of-cell-requires g c =
     let s = c.requires.site in
     let k = c.in-Ok.ensures in
     let taken = taken-known c.args.image.now c.args.self.now.seat c.take.new.seat c.args.site _ _ _ c.requires.image.seated.image_is s.0 s.1 k.held.1 k.told.1.now in
-    ap kind_of (sym c.into_kept.ensures) ∙ (taken.1 ∙ s.2)
+    ap kind_of (sym c.into_kept.ensures.cell) ∙ (taken.1 ∙ s.2)
 
 pub returns-in-Some-clause-unnoted : goal.returns-in-Some-clause-unnoted
 returns-in-Some-clause-unnoted g c = taken-turn _ _ _ _ _ _ c.in-Ok.ensures.same c.in-Ok.ensures.told.1.now
@@ -73,13 +75,14 @@ returns-in-Some-clause-turn g c =
     let p = c.requires.image in
     let taken = taken-known image seat c.take.new.seat c.args.site held.word held.contents _ p.seated.image_is s.0 s.1 k.held.1 k.told.1.now in
     let cell = g.K.Kind.cell c.of-before.result.value in
-    let is : held.contents.cell ≡ cell = c.into_kept.ensures ∙ (c.out_of-cell.ensures ∙ ap g.K.Kind.cell (sym c.of-before.ensures)) in
+    let is : held.contents.cell ≡ cell = c.into_kept.ensures.cell ∙ (c.out_of-cell.ensures.cell ∙ ap g.K.Kind.cell (sym c.of-before.ensures)) in
     let whole : held.contents ≡ known image cell = (λ i. record { image = taken.0 i; cell = is i }) in (
       sym c.of-before.ensures,
       record {
-        turn = in-turn image _ _ _ seat c.take.new.seat _ c.args.site held.word c.in-Some.number _ _ held.contents cell _ p s.0 s.1 k.same k.held.1 k.told.1.now k.slots c.in-Some.ensures.0 c.counts-ready.ensures c.in-Some.ensures.1 is;
+        turn = in-turn image _ _ _ seat c.take.new.seat _ c.args.site held.word c.in-Some.number _ _ _ held.contents cell _ p s.0 s.1 k.same k.held.1 k.told.1.now k.slots c.in-Some.ensures.0 c.counts-counts.ensures c.in-Some.ensures.1 is;
         free = c.is_full.ensures.room c.if-is_full.false;
         got = got-one _ _ _ _ (ap (λ (v : View). v.got) k.told.1.now);
         saw = subst (λ (x : Known). SawCell seat c.args.site held.word x) whole (saw-at seat c.take.new.seat _ _ _ k.told.0 k.told.1);
+        marks = subst (λ (x : Image × Option ℕ). HasRoom x.0 x.1) (λ i. (taken.0 i, (c.out_of-cell.ensures.room ∙ ap g.K.Kind.room (sym c.of-before.ensures)) i)) c.into_kept.ensures.room;
       },
     )

@@ -1,5 +1,5 @@
 use Rattle.um_tables.specs.SchedulerActs.{added_made}
 use Rattle.um_board.proofs.sites.SeatedSites.add.Given as goal
 
-abbrev pub ghosts-leave : goal.ghosts-leave
-ghosts-leave a = record { step = added_made a.here.now.image.now a.here.now.cpu a.turn.number a.turn.before.value.value a.about.now.value.value }
+abbrev pub ghosts-leave_cell : goal.ghosts-leave_cell
+ghosts-leave_cell a = record { step = added_made a.here.now.image.now a.here.now.cpu a.turn.number a.turn.before.value.value a.about.now.value.value }

@@ -1,5 +1,5 @@
 use Rattle.um_tables.specs.SchedulerActs.{done_made}
 use Rattle.um_board.proofs.sites.SeatedSites.done.Given as goal
 
-abbrev pub ghosts-leave : goal.ghosts-leave
-ghosts-leave a = record { step = done_made a.here.now.image.now a.here.now.cpu a.turn.number a.turn.before.value.value }
+abbrev pub ghosts-leave_cell : goal.ghosts-leave_cell
+ghosts-leave_cell a = record { step = done_made a.here.now.image.now a.here.now.cpu a.turn.number a.turn.before.value.value }

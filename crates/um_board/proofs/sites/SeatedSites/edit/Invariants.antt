@@ -1,5 +1,5 @@
 use Rattle.um_tables.specs.DomainCells.{edited_made}
 use Rattle.um_board.proofs.sites.SeatedSites.edit.Given as goal
 
-abbrev pub ghosts-leave : goal.ghosts-leave
-ghosts-leave a = record { step = edited_made a.here.now.image.now a.here.now.cpu a.which a.turn.number a.turn.before.value.value.parts a.about.now }
+abbrev pub ghosts-leave_cell : goal.ghosts-leave_cell
+ghosts-leave_cell a = record { step = edited_made a.here.now.image.now a.here.now.cpu a.which a.turn.number a.turn.before.value.value.parts a.about.now }

@@ -20,8 +20,8 @@ said-of : (image : Image) (act : HeapAct) (charge : Option Cost) (h d : Heap) (s
     → let heard = λ (x : Heap). heap_said (heap_says image x (Exchange.charge charge) (heap_act act)) in said ≡ heard h → said ≡ heard d
 said-of image act charge h d said was is = is ∙ ap (λ (x : Heap). heap_said (heap_says image x (Exchange.charge charge) (heap_act act))) was
 
-pub leave-requires-clause-takes : goal.leave-requires-clause-takes
-leave-requires-clause-takes c =
+pub leave_cell-requires-clause-takes : goal.leave_cell-requires-clause-takes
+leave_cell-requires-clause-takes c =
     let d = c.in-Some.turn.before.value.value in
     let was : c.deref_mut.result.now ≡ d = search rules in
     let image = c.args.here.now.image.now in
@@ -30,21 +30,21 @@ leave-requires-clause-takes c =
     cell-takes image c.args.here.now.cpu Site.heap c.in-Some.turn.number (Cell.heap d) _ (heap_act c.args.act.now) paid c.in-Some.ensures.turn.1.turn.room (heap-takes image d paid c.args.act.now)
     (ap Cell.heap (c.make-said.ensures.leaves ∙ ap (λ (h : Heap). heap_after image h (act_in (says h)) paid) was))
 
-pub leave-requires-clause-event : goal.leave-requires-clause-event
-leave-requires-clause-event c =
+pub leave_cell-requires-clause-event : goal.leave_cell-requires-clause-event
+leave_cell-requires-clause-event c =
     let d = c.in-Some.turn.before.value.value in
     let act = c.args.act.now in
     let said = said-of c.args.here.now.image.now act c.args.charge c.deref_mut.result.now d _ (search rules) c.make-said.ensures.said in
     c.event-event.ensures ∙ (ap (λ (s : HeapSaid). Some (heap_event act s)) said ∙ heap-event c.args.here.now.image.now d (Exchange.charge c.args.charge) act)
 
-pub leave-requires-clause-goes : goal.leave-requires-clause-goes
-leave-requires-clause-goes c = next-then _ _ _ _ _ _ c.in-Some.ensures.unnoted (c.requires.goes c.in-Some.turn.number c.in-Some.turn.before.value.value)
+pub leave_cell-requires-clause-goes : goal.leave_cell-requires-clause-goes
+leave_cell-requires-clause-goes c = next-then _ _ _ _ _ _ c.in-Some.ensures.unnoted (c.requires.goes c.in-Some.turn.number c.in-Some.turn.before.value.value)
 
 pub returns-clause-said : goal.returns-clause-said
 returns-clause-said c =
     let d = c.in-Some.turn.before.value.value in
     let said = said-of c.args.here.now.image.now c.args.act.now c.args.charge c.deref_mut.result.now d _ (search rules) c.make-said.ensures.said in
-    (c.in-Some.turn.number, d, noted-then _ _ _ _ _ _ _ c.in-Some.ensures.unnoted c.leave.ensures.made, said)
+    (c.in-Some.turn.number, d, noted-then _ _ _ _ _ _ _ c.in-Some.ensures.unnoted c.leave_cell.ensures.made, said)
 
 pub returns-in_default-clause-said : goal.returns-in_default-clause-said
 returns-in_default-clause-said c = (c.turn.ensures.unnoted, c.in_default.ensures.turn.1)

@@ -20,8 +20,8 @@ use Rattle.um_board.proofs.sites.SeatedSites.memory.Goals as goal
 said-of : (image : Image) (act : MemoryAct) (b d : Bytes) (p q : List ℕ) (said : MemorySaid) → b ≡ d → p ≡ q → said ≡ memory_said (memory_answered image b act p) → said ≡ memory_said (memory_answered image d act q)
 said-of image act b d p q said was sent is = is ∙ (λ i. memory_said (memory_answered image (was i) act (sent i)))
 
-pub leave-requires-clause-takes : goal.leave-requires-clause-takes
-leave-requires-clause-takes c =
+pub leave_cell-requires-clause-takes : goal.leave_cell-requires-clause-takes
+leave_cell-requires-clause-takes c =
     let d = c.in-Some.turn.before.value.value in
     let was : c.deref_mut.result.now ≡ d = search rules in
     let image = c.args.here.now.image.now in
@@ -30,15 +30,15 @@ leave-requires-clause-takes c =
     let same : c.args.buffer.now ≡ sent = sym c.of-sent.ensures in
     cell-takes image c.args.here.now.cpu Site.memory c.in-Some.turn.number (Cell.memory d) _ (memory_act act) (memory_sent act sent) c.in-Some.ensures.turn.1.turn.room (memory-takes image d (memory_sent act sent) act) (ap Cell.memory (c.make-said.ensures.leaves ∙ (λ i. memory_after image (was i) (act_in (memory_answered image (was i) act (same i))) (memory_given image (was i) act (same i)))))
 
-pub leave-requires-clause-event : goal.leave-requires-clause-event
-leave-requires-clause-event c =
+pub leave_cell-requires-clause-event : goal.leave_cell-requires-clause-event
+leave_cell-requires-clause-event c =
     let d = c.in-Some.turn.before.value.value in
     let act = c.args.act.now in
     let said = said-of c.args.here.now.image.now act c.deref_mut.result.now d _ _ _ (search rules) (sym c.of-sent.ensures) c.make-said.ensures.said in
     c.event-event.ensures ∙ (ap (λ (s : MemorySaid). Some (memory_event act s)) said ∙ memory-event c.args.here.now.image.now d (memory_sent act c.of-sent.result.value) act)
 
-pub leave-requires-clause-goes : goal.leave-requires-clause-goes
-leave-requires-clause-goes c =
+pub leave_cell-requires-clause-goes : goal.leave_cell-requires-clause-goes
+leave_cell-requires-clause-goes c =
     let seat = c.args.self.now.seat in
     next-then _ _ _ _ _ _ c.in-Some.ensures.unnoted (subst (λ (p : List ℕ). IsNext c.args.here.now.image.now seat.token.me.0.name seat.token.me.0.made (memory_made c.args.here.now.image.now c.args.here.now.cpu c.in-Some.turn.number c.in-Some.turn.before.value.value c.args.act.now p)) (sym c.of-sent.ensures) (c.requires.goes c.in-Some.turn.number c.in-Some.turn.before.value.value))
 
@@ -48,10 +48,10 @@ returns-clause-said c =
     let was : c.deref_mut.result.now ≡ d = search rules in
     let answered = λ (b : Bytes). memory_answered c.args.here.now.image.now b c.args.act.now c.args.buffer.now in
     let given = λ (b : Bytes). memory_given c.args.here.now.image.now b c.args.act.now c.args.buffer.now in
-    let made = noted-then _ _ _ _ _ _ _ c.in-Some.ensures.unnoted c.leave.ensures.made in (
+    let made = noted-then _ _ _ _ _ _ _ c.in-Some.ensures.unnoted c.leave_cell.ensures.made in (
       c.in-Some.turn.number,
       d,
-      subst (λ (p : List ℕ). HasMadeThere c.args.self.now (memory_made c.args.here.now.image.now c.args.here.now.cpu c.in-Some.turn.number d c.args.act.now p) c.leave.new.self) c.of-sent.ensures made,
+      subst (λ (p : List ℕ). HasMadeThere c.args.self.now (memory_made c.args.here.now.image.now c.args.here.now.cpu c.in-Some.turn.number d c.args.act.now p) c.leave_cell.new.self) c.of-sent.ensures made,
       record {
         said_is = said-of c.args.here.now.image.now c.args.act.now _ _ _ _ _ was refl c.make-said.ensures.said;
         taken = c.make-said.ensures.taken ∙ ap (λ (b : Bytes). taken_after (act_in (answered b)) (given b) c.args.buffer.now) was;

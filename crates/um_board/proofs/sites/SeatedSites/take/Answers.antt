@@ -1,4 +1,4 @@
-use Rattle.std.proofs.Common.{rules, ◌≡◌, ◌∙◌, ap, refl, sym, subst, ℕ, IsTrue, Some, None, false, if◌then◌else◌}
+use Rattle.std.proofs.Common.{arith, rules, ◌≡◌, ◌∙◌, ap, refl, sym, subst, ℕ, IsTrue, Some, None, false, if◌then◌else◌}
 use Rattle.um_fine.specs.Cells.{Cell}
 use Rattle.um_fine.specs.Steps.{Exchange, Site}
 use Rattle.um_base.specs.declared.act.Act.{Act}
@@ -22,28 +22,28 @@ given-of : (s d t : Scheduler) (first : Exchange) → s ≡ d → IsTrue (has_re
     → IsTrue (has_ready d d.ready) × (t ≡ first_taken d d.ready) × (first_ready d d.ready ≡ first)
 given-of s d t first was = subst (λ (x : Scheduler). IsTrue (has_ready x x.ready) × (t ≡ first_taken x x.ready) × (first_ready x x.ready ≡ first)) was
 
-pub leave-requires-clause-takes : goal.leave-requires-clause-takes
-leave-requires-clause-takes c =
+pub leave_cell-requires-clause-takes : goal.leave_cell-requires-clause-takes
+leave_cell-requires-clause-takes c =
     let d = c.in-Some.turn.before.value.value in
     let e = given-of c.deref_mut.result.now d c.take.new.self _ (search rules) c.in-Some-take.ensures in
     cell-takes c.args.here.now.image.now c.args.here.now.cpu Site.scheduler c.in-Some.turn.number (Cell.scheduler d) _ (FineAct.Unseen (Unseen.Next (to_thread 0))) Exchange.nothing c.in-Some.ensures.turn.1.turn.room (next-takes d (to_thread 0) ∙ e.0) (ap Cell.scheduler (e.1 ∙ sym (next-after d (to_thread 0) _)))
 
-pub leave-requires-clause-event : goal.leave-requires-clause-event
-leave-requires-clause-event c =
+pub leave_cell-requires-clause-event : goal.leave_cell-requires-clause-event
+leave_cell-requires-clause-event c =
     let d = c.in-Some.turn.before.value.value in
     let e = given-of c.deref_mut.result.now d c.take.new.self _ (search rules) c.in-Some-take.ensures in
     let own = c.take.new.context.value in
     let thread : c.thread.result ≡ own.thread = c.thread.ensures.value ∙ ap (λ (k : Context). k.thread) c.deref.ensures in
     c.resumed-event.ensures ∙ (ap (λ (t : ℕ). if c.in-Some-take.woken then Some (by_thread (to_thread t) Act.Resume) else None) thread ∙ (resumes own c.take.new.told c.in-Some-take.woken ∙ sym (ap (λ (f : Exchange). event_of (turn_in (FineAct.Unseen (Unseen.Next (to_thread 0))) f)) e.2)))
 
-pub leave-requires-clause-goes : goal.leave-requires-clause-goes
-leave-requires-clause-goes c = next-then _ _ _ _ _ _ (unnoted-then _ _ _ _ _ _ c.look-seen.ensures.unnoted c.in-Some.ensures.unnoted) (c.requires.goes c.in-Some.turn.number c.in-Some.turn.before.value.value)
+pub leave_cell-requires-clause-goes : goal.leave_cell-requires-clause-goes
+leave_cell-requires-clause-goes c = next-then _ _ _ _ _ _ (unnoted-then _ _ _ _ _ _ c.look-seen.ensures.unnoted c.in-Some.ensures.unnoted) (c.requires.goes c.in-Some.turn.number c.in-Some.turn.before.value.value)
 
 pub returns-clause-said : goal.returns-clause-said
 returns-clause-said c =
     let d = c.in-Some.turn.before.value.value in
     let e = given-of c.deref_mut.result.now d c.take.new.self _ (search rules) c.in-Some-take.ensures in
-    (c.in-Some.turn.number, d, noted-then _ _ _ _ _ _ _ (unnoted-then _ _ _ _ _ _ c.look-seen.ensures.unnoted c.in-Some.ensures.unnoted) c.leave.ensures.made, e.2)
+    (c.in-Some.turn.number, d, noted-then _ _ _ _ _ _ _ (unnoted-then _ _ _ _ _ _ c.look-seen.ensures.unnoted c.in-Some.ensures.unnoted) c.leave_cell.ensures.made, e.2)
 
 pub returns-in-None-clause-said : goal.returns-in-None-clause-said
 returns-in-None-clause-said c =
@@ -53,7 +53,7 @@ returns-in-None-clause-said c =
     let denied = next-takes d (to_thread 0) ∙ subst (λ (x : Scheduler). has_ready x x.ready ≡ false) was r.3 in
     let looked = c.look-seen.ensures.unnoted in
     let t = c.in-Some.ensures.turn.1 in
-    let shut = refused c.args.here.now.image.now c.args.here.now.cpu c.in-Some.turn.number _ d (Unseen.Next (to_thread 0)) Exchange.nothing _ _ _ _ _ _ (unnoted-then _ _ _ _ _ _ looked c.in-Some.ensures.unnoted) c.put_back.ensures.unnoted t.turn.says (got-first _ _ _ looked.got.0 _ _ looked.got.1 t.got) (cell-first _ _ _ _ _ _ _ looked t.saw) denied in
+    let shut = refused c.args.here.now.image.now c.args.here.now.cpu Site.scheduler c.in-Some.turn.number _ (Cell.scheduler d) (FineAct.Unseen (Unseen.Next (to_thread 0))) Exchange.nothing _ _ _ _ _ _ (unnoted-then _ _ _ _ _ _ looked c.in-Some.ensures.unnoted) c.put_back.ensures.unnoted (omega arith) t.turn.says (got-first _ _ _ looked.got.0 _ _ looked.got.1 t.got) (cell-first _ _ _ _ _ _ _ looked t.saw) denied in
     (c.in-Some.turn.number, d, shut.0, shut.1, (r.1, r.2))
 
 pub returns-then-read-eq0-clause-said : goal.returns-then-read-eq0-clause-said

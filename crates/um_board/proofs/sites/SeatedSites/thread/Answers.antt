@@ -20,7 +20,7 @@ use Rattle.um_board.proofs.sites.SeatedSites.thread.Goals as goal
 pub pack-requires : goal.pack-requires
 pack-requires c =
     let t = thread-takes c.args.here.now.image.now c.args.here.now.cpu c.args.thread.0 c.in-Some-unpack.word c.args.act.now _ c.in-Some-make.ensures.made in
-    thread-packs c.args.here.now.image.now (thread_made c.args.here.now.image.now c.args.here.now.cpu c.args.thread.0 c.in-Some-unpack.word c.args.act.now) _ _ (c.in-Some-make.ensures.domain c.in-Some-unpack.ensures.fits.domain) t
+    thread-packs c.args.here.now.image.now (thread_made c.args.here.now.image.now c.args.here.now.cpu c.args.thread.0 c.in-Some-unpack.word c.args.act.now) _ _ c.in-Some-unpack.ensures.fits t
 
 pub step-requires-clause-step : goal.step-requires-clause-step
 step-requires-clause-step c =

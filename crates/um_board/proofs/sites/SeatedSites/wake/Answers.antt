@@ -1,4 +1,4 @@
-use Rattle.std.proofs.Common.{rules, ◌≡◌, ◌∙◌, ap, subst, false, Bool, IsTrue, is_some}
+use Rattle.std.proofs.Common.{arith, rules, ◌≡◌, ◌∙◌, ap, subst, false, Bool, IsTrue, is_some}
 use Rattle.um_fine.specs.Cells.{Cell}
 use Rattle.um_fine.specs.Steps.{Exchange, Site}
 use Rattle.um_fine.specs.Scheduler.{Scheduler, has_place, parked_at}
@@ -11,18 +11,18 @@ use Rattle.um_board.proofs.NextRuns.{next-then}
 use Rattle.um_board.proofs.Saws.{refused}
 use Rattle.um_board.proofs.sites.SeatedSites.wake.Goals as goal
 
-pub leave-requires-clause-takes : goal.leave-requires-clause-takes
-leave-requires-clause-takes c =
+pub leave_cell-requires-clause-takes : goal.leave_cell-requires-clause-takes
+leave_cell-requires-clause-takes c =
     let d = c.in-Some.turn.before.value.value in
     let was : c.deref_mut.result.now ≡ d = search rules in
     let e = subst (λ (s : Scheduler). IsTrue (has_place s) × (c.in-Some-wake.ready ≡ is_some (parked_at s c.args.who.0)) × (c.wake.new.self ≡ awake s c.in-Some-wake.ready c.args.who.0 c.args.told.now)) was c.in-Some-wake.ensures in
     cell-takes c.args.here.now.image.now c.args.here.now.cpu Site.scheduler c.in-Some.turn.number (Cell.scheduler d) _ (FineAct.Unseen (Unseen.Wake c.args.who false)) (Exchange.told c.args.told.now) c.in-Some.ensures.turn.1.turn.room e.0 (ap Cell.scheduler (e.2 ∙ ap (λ (b : Bool). awake d b c.args.who.0 c.args.told.now) e.1))
 
-pub leave-requires-clause-goes : goal.leave-requires-clause-goes
-leave-requires-clause-goes c = next-then _ _ _ _ _ _ c.in-Some.ensures.unnoted (c.requires.goes c.in-Some.turn.number c.in-Some.turn.before.value.value)
+pub leave_cell-requires-clause-goes : goal.leave_cell-requires-clause-goes
+leave_cell-requires-clause-goes c = next-then _ _ _ _ _ _ c.in-Some.ensures.unnoted (c.requires.goes c.in-Some.turn.number c.in-Some.turn.before.value.value)
 
 pub returns-clause-said : goal.returns-clause-said
-returns-clause-said c = (c.in-Some.turn.number, c.in-Some.turn.before.value.value, noted-then _ _ _ _ _ _ _ c.in-Some.ensures.unnoted c.leave.ensures.made)
+returns-clause-said c = (c.in-Some.turn.number, c.in-Some.turn.before.value.value, noted-then _ _ _ _ _ _ _ c.in-Some.ensures.unnoted c.leave_cell.ensures.made)
 
 pub returns-in-None-clause-said : goal.returns-in-None-clause-said
 returns-in-None-clause-said c =
@@ -30,7 +30,7 @@ returns-in-None-clause-said c =
     let was : c.deref_mut.result.now ≡ d = search rules in
     let t = c.in-Some.ensures.turn.1 in
     let denied = subst (λ (x : Scheduler). has_place x ≡ false) was c.in-None.ensures.1 in
-    let shut = refused c.args.here.now.image.now c.args.here.now.cpu c.in-Some.turn.number _ d (Unseen.Wake c.args.who false) (Exchange.told c.args.told.now) _ _ _ _ _ _ c.in-Some.ensures.unnoted c.put_back.ensures.unnoted t.turn.says t.got t.saw denied in
+    let shut = refused c.args.here.now.image.now c.args.here.now.cpu Site.scheduler c.in-Some.turn.number _ (Cell.scheduler d) (FineAct.Unseen (Unseen.Wake c.args.who false)) (Exchange.told c.args.told.now) _ _ _ _ _ _ c.in-Some.ensures.unnoted c.put_back.ensures.unnoted (omega arith) t.turn.says t.got t.saw denied in
     (c.in-Some.turn.number, d, shut.0, shut.1)
 
 pub put_back-requires-clause-same : goal.put_back-requires-clause-same

@@ -1,5 +1,5 @@
 use Rattle.um_tables.specs.ObjectCells.{kept_in, worked_made}
 use Rattle.um_board.proofs.sites.SeatedSites.work.Given as goal
 
-abbrev pub ghosts-leave : goal.ghosts-leave
-ghosts-leave a = record { step = worked_made a.here.now.image.now a.here.now.cpu a.which a.turn.number (kept_in a.turn.before.value) a.about.now.0 a.about.now.1.now }
+abbrev pub ghosts-leave_cell : goal.ghosts-leave_cell
+ghosts-leave_cell a = record { step = worked_made a.here.now.image.now a.here.now.cpu a.which a.turn.number (kept_in a.turn.before.value) a.about.now.0 a.about.now.1.now a.about.now.2 }

@@ -12,4 +12,4 @@ invariant_of-result c =
 pub returns : goal.returns
 unfolding blank
 returns c =
-    state-is (blank c.args.image.now) refl c.in_ok-threads.ensures.items refl c.in_ok-pairs.ensures.items c.in_ok-domains.ensures.items c.in_ok-memory.ensures.items c.in_ok-stacks.ensures.items c.in_ok-pools.ensures.items
+    state-is (blank c.args.image.now) refl c.in_ok-threads.ensures.items refl c.in_ok-pairs.ensures.items c.in_ok-domains.ensures.items c.in_ok-memory.ensures.items c.in_ok-stacks.ensures.items c.in_ok-pools.ensures.items refl refl refl refl

@@ -1,12 +1,9 @@
-use Rattle.std.proofs.Common.{ℕ, sym, ap, ◌∙◌, arith, length, List}
-use Rattle.um_machine.specs.declared.thread.Thread.{Thread}
-use Rattle.um_matrix.specs.Offered.{IsIdle}
-use Rattle.um_matrix.proofs.OfferLemmas.{below-next, all-idle}
+use Rattle.std.proofs.Common.{subst}
+use Rattle.std.specs.Prelude.{MatchOption}
+use Rattle.um_machine.specs.Run.{IsComplete}
+use Rattle.um_machine.specs.State.{State}
+use Rattle.um_matrix.specs.Offered.{IsStep}
 use Rattle.um_matrix.proofs.matrix.Matrix.next_event.Goals as goal
 
-pub loop-t-preserved : goal.loop-t-preserved
-loop-t-preserved c = below-next (λ (t : ℕ). IsIdle c.args.self.now t) c.loop-t.t c.loop-t.invariant c.in-None.ensures.none
-
 pub returns : goal.returns
-returns c =
-    all-idle c.args.self.now (ap (λ (ts : List Thread). length ts) (sym c.threads-threads.ensures.value) ∙ c.threads-threads.ensures.all) (λ t below. c.loop-t.invariant t (omega (arith, c.threads-threads.ensures.all)))
+returns c = subst (λ (s : State). MatchOption c.next_event.result (IsComplete s) (λ event. IsStep s event)) c.self.view_is c.next_event.ensures

@@ -26,3 +26,25 @@ returns-in-Drop g c =
     let clear = c.requires.clear in
     let at = stood-in c.args.self.now.running Phase.Drop _ _ _ (sym c.phase.ensures ∙ c.in-Drop.is) clear.cleans clear.ends clear.woken in
     record { turn = stepped-from g.S.Sites c.drop_permission.result c.args.here.now c.args.sites.now c.drop_permission.new.sites _ _ _ _ at c.drop_permission.ensures.turn }
+
+pub returns-in-Act : goal.returns-in-Act
+returns-in-Act g c =
+    record { turn = stepped-from g.S.Sites c.show-in-Act.result c.args.here.now c.args.sites.now c.show-in-Act.new.sites _ _ _ _ (event-in c.args.self.now Phase.Act c.requires.clear refl (sym c.phase.ensures ∙ c.in-Act.is)) c.show-in-Act.ensures.turn }
+
+pub returns-in-Begin : goal.returns-in-Begin
+returns-in-Begin g c =
+    let clear = c.requires.clear in
+    let at = stood-in c.args.self.now.running Phase.Begin _ _ _ (sym c.phase.ensures ∙ c.in-Begin.is) clear.cleans clear.ends clear.woken in
+    record { turn = stepped-from g.S.Sites c.begin.result c.args.here.now c.args.sites.now c.begin.new.sites _ _ _ _ at c.begin.ensures.turn }
+
+pub returns-in-Leave : goal.returns-in-Leave
+returns-in-Leave g c =
+    let clear = c.requires.clear in
+    let at = stood-in c.args.self.now.running Phase.Leave _ _ _ (sym c.phase.ensures ∙ c.in-Leave.is) clear.cleans clear.ends clear.woken in
+    record { turn = stepped-from g.S.Sites c.leave.result c.args.here.now c.args.sites.now c.leave.new.sites _ _ _ _ at c.leave.ensures.turn }
+
+pub returns-in-Handle : goal.returns-in-Handle
+returns-in-Handle g c =
+    let clear = c.requires.clear in
+    let at = stood-in c.args.self.now.running Phase.Handle _ _ _ (sym c.phase.ensures ∙ c.in-Handle.is) clear.cleans clear.ends clear.woken in
+    record { turn = stepped-from g.S.Sites c.handle.result c.args.here.now c.args.sites.now c.handle.new.sites _ _ _ _ at c.handle.ensures.turn }

@@ -1,8 +1,7 @@
 use Rattle.std.proofs.Common.{refl, ap, subst, sym, ◌∙◌}
 use Rattle.std.proofs.lemmas.Bool.{le-ltb}
-use Rattle.um_fine.specs.Asks.{next_site}
 use Rattle.um_fine.specs.Processor.{Processor}
-use Rattle.um_processor.specs.Processors.{IsStuck, has_thread}
+use Rattle.um_processor.specs.Processors.{IsStuck, has_thread, site_next}
 use Rattle.um_processor.proofs.Wholes.{next-told, wake-first, wake-goes}
 use Rattle.um_processor.proofs.processor.Processor.wake.Goals as goal
 
@@ -42,7 +41,7 @@ returns-in-Changed g c =
     let next = next-told k.outcome.woken k.told _ c.requires.woken (rw c.as_slice.ensures.value at c.index-as_slice-self.is) in
     let first = wake-first c.args.here.now.image.now c.args.here.now.cpu k.running c.requires.runs k.cleans k.ends.items _ _ _ c.requires.cleans c.requires.ends next in
     let late =
-    subst (λ (p : Processor). g.S.Sites.Kept c.args.sites.now c.wake.new.self × g.S.Sites.Contended c.args.here.now.image.now c.args.sites.now (next_site c.args.here.now.image.now p) c.wake.new.self)
+    subst (λ (p : Processor). g.S.Sites.Kept c.args.sites.now c.wake.new.self × g.S.Sites.Contended c.args.here.now.image.now c.args.sites.now (site_next c.args.here.now.image.now p) c.wake.new.self)
     (sym first)
     c.in-Changed.ensures.said in
     record { turn = (c.in-Changed.ensures.image, refl, late) }

@@ -3,9 +3,9 @@ use Rattle.um_machine.specs.Goes.{Next}
 use Rattle.um_machine.specs.Order.{Steps}
 use Rattle.um_fine.specs.Context.{Context}
 use Rattle.um_fine.specs.Continues.{gone_part, reply_of}
-use Rattle.um_processor.specs.Events.{behind_event}
-use Rattle.um_processor.specs.Processors.{processor_of}
-use Rattle.um_processor.proofs.Runs.{runs-behind}
+use Rattle.um_processor.specs.Events.{left_behind, todo_after}
+use Rattle.um_processor.specs.Processors.{processor_of, ready_of}
+use Rattle.um_processor.proofs.Runs.{runs-left}
 use Rattle.um_processor.proofs.Released.{answered-goes}
 use Rattle.um_processor.proofs.running.Running.answer.Goals as goal
 
@@ -25,6 +25,6 @@ returns g c =
     answered-goes image c.args.here.now.cpu r c.args.self.now.phase h.0 c.args.reply c.args.to _ c.reply_of-said.result c.gives_claims.new.claims.items (processor_of c.leaves.new.self) thread
     (search rules)
     (search rules)
-    (c.leaves.ensures ∙ ap (λ (own : Context). behind_event image c.args.self.now.phase own r) after) in
-    let runs = runs-behind image c.args.self.now.phase _ r _ c.leaves.ensures in
+    (c.leaves.ensures ∙ (λ i. left_behind image (todo_after c.args.self.now.phase [] (ready_of r)) (after i) (c.thread-thread.ensures.value i) r)) in
+    let runs = runs-left image _ _ _ r _ c.leaves.ensures in
     record { ends = record { image = c.in-Made.ensures.image; ends = tt; same = tt; runs = runs; turn = (_, h.1, goes) } }

@@ -2,9 +2,9 @@ use Rattle.std.proofs.Common.{rules, ◌≡◌, [], ap, ◌∙◌}
 use Rattle.um_machine.specs.Order.{fatal_steps}
 use Rattle.um_fine.specs.Context.{Context, as_thread}
 use Rattle.um_fine.specs.Continues.{ends_with}
-use Rattle.um_processor.specs.Events.{behind_event}
-use Rattle.um_processor.specs.Processors.{processor_of}
-use Rattle.um_processor.proofs.Runs.{runs-behind}
+use Rattle.um_processor.specs.Events.{left_behind, todo_after}
+use Rattle.um_processor.specs.Processors.{processor_of, ready_of}
+use Rattle.um_processor.proofs.Runs.{runs-left}
 use Rattle.um_processor.proofs.Released.{failed-goes}
 use Rattle.um_processor.proofs.running.Running.fail.Goals as goal
 
@@ -18,6 +18,6 @@ returns g c =
     let goes =
     failed-goes image c.args.here.now.cpu r c.args.self.now.phase h.0 c.args.reason c.args.cause _ c.gives_claims.new.claims.items (processor_of c.leaves.new.self) c.thread-thread.ensures.value
     (search rules)
-    (c.leaves.ensures ∙ ap (λ (own : Context). behind_event image c.args.self.now.phase own r) after) in
-    let runs = runs-behind image c.args.self.now.phase _ r _ c.leaves.ensures in
+    (c.leaves.ensures ∙ (λ i. left_behind image (todo_after c.args.self.now.phase [] (ready_of r)) (after i) (c.thread-thread.ensures.value i) r)) in
+    let runs = runs-left image _ _ _ r _ c.leaves.ensures in
     record { ends = record { image = c.in-Made.ensures.image; ends = tt; same = tt; runs = runs; turn = (_, h.1, goes) } }

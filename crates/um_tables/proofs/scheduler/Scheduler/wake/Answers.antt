@@ -13,8 +13,8 @@ returns c =
     let t = c.args.who.0 in
     let here = c.index_mut-place.ensures.value in (
       subst (λ (s : Scheduler). IsTrue (has_place s)) c.self.view_is (lt-ltb (length r) THREADS (omega arith)),
-      c.is_there-ready.ensures ∙ sym (ap is_some (parked-there r places c.self.inside.running t _ here (omega arith)))
+      c.is_there-ready.ensures ∙ sym (ap is_some (parked-there r places c.self.inside.running c.self.inside.owed t _ here (omega arith)))
           ∙ ap (λ (s : Scheduler). is_some (parked_at s t)) c.self.view_is,
-      told-at-place r _ places _ t _ _ c.args.told.now c.is_there-ready.result here c.tell.ensures c.join.ensures.items
+      told-at-place r _ places _ _ t _ _ c.args.told.now c.is_there-ready.result here c.tell.ensures c.join.ensures.items
           ∙ ap (λ (s : Scheduler). awake s c.is_there-ready.result t c.args.told.now) c.self.view_is,
     )

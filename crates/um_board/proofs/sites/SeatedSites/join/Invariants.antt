@@ -1,0 +1,5 @@
+use Rattle.um_tables.specs.JoinActs.{joined_made}
+use Rattle.um_board.proofs.sites.SeatedSites.join.Given as goal
+
+abbrev pub ghosts-leave_cell : goal.ghosts-leave_cell
+ghosts-leave_cell a = record { step = joined_made a.here.now.image.now a.here.now.cpu a.turn.number a.turn.before.value.value a.about.now.0.now a.about.now.1 a.about.now.2 }

@@ -1,0 +1,5 @@
+use Rattle.um_tables.specs.SchedulerActs.{owed_made}
+use Rattle.um_board.proofs.sites.SeatedSites.owe.Given as goal
+
+abbrev pub ghosts-leave_cell : goal.ghosts-leave_cell
+ghosts-leave_cell a = record { step = owed_made a.here.now.image.now a.here.now.cpu a.turn.number a.turn.before.value.value }

@@ -1,6 +1,0 @@
-use Rattle.um_matrix.proofs.OfferLemmas.{idle-thread}
-use Rattle.um_matrix.proofs.matrix.Matrix.act_by.Goals as goal
-
-pub returns-in-None-cleaning_act-clause-none : goal.returns-in-None-cleaning_act-clause-none
-returns-in-None-cleaning_act-clause-none c =
-    idle-thread c.args.self.now c.args.t c.in-None.ensures.first c.in-None.ensures.second c.in-None-cleaning_act.ensures.pairs c.in-None-cleaning_act.ensures.objects

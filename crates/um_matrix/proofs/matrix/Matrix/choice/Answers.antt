@@ -1,6 +1,0 @@
-use Rattle.um_matrix.proofs.OfferLemmas.{refused-step}
-use Rattle.um_matrix.proofs.matrix.Matrix.choice.Goals as goal
-
-pub returns-in-None-by_cleaning-clause-none : goal.returns-in-None-by_cleaning-clause-none
-returns-in-None-by_cleaning-clause-none c =
-    refused-step c.args.self.now c.args.event.now c.in-None.ensures.first c.in-None.ensures.second c.in-None-by_cleaning.ensures.pairs c.in-None-by_cleaning.ensures.objects

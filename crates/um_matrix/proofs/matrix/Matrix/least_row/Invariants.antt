@@ -1,6 +1,0 @@
-use Rattle.std.proofs.Common.{◌<◌, ℕ}
-use Rattle.um_machine.specs.Run.{MayChoose}
-use Rattle.um_matrix.proofs.matrix.Matrix.least_row.Given as goal
-
-abbrev pub invariant-loop-x : goal.invariant-loop-x
-invariant-loop-x l = (x : ℕ) → x < l.x → MayChoose l.self l.t x l.step → ⊥

@@ -1,0 +1,9 @@
+use Rattle.std.proofs.Common.{refl}
+use Rattle.um_processor.proofs.Timed.{tick-goes}
+use Rattle.um_processor.proofs.running.Running.tick.Goals as goal
+
+pub returns : goal.returns
+returns g c =
+    let h = c.in-Made.ensures.said in
+    let goes = tick-goes c.args.here.now.image.now c.args.here.now.cpu c.args.self.now h.0 h.1 c.actor-thread.result.0 c.actor-thread.ensures c.requires.idle in
+    record { turn = (c.in-Made.ensures.image, tt, (_, (refl, h.2), goes)) }

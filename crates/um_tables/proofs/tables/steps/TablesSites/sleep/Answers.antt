@@ -1,0 +1,30 @@
+use Rattle.std.proofs.Common.{arith, None, ap, refl}
+use Rattle.um_fine.specs.Cells.{Cell}
+use Rattle.um_fine.specs.Steps.{Exchange, Site}
+use Rattle.um_words.specs.declared.fine.FineAct.{FineAct}
+use Rattle.um_words.specs.declared.fine.Unseen.{Unseen}
+use Rattle.um_tables.proofs.Celled.{cell-ends, cell-taken}
+use Rattle.um_tables.proofs.tables.steps.TablesSites.sleep.Goals as goal
+
+pub returns-clause-said : goal.returns-clause-said
+returns-clause-said c =
+    let kept = c.self.inside.joins in
+    let e = c.sleep.ensures in (
+      c.self.inside.joins_steps,
+      kept,
+      cell-taken c.args.here.now.image.now _ _ c.self.view_is c.args.here.now.cpu Site.joins c.self.inside.joins_steps (Cell.joins kept) (Cell.joins c.sleep.new.self) (FineAct.Unseen Unseen.Sleep) (Exchange.thread c.args.context.now.value None) refl (omega arith) refl
+          (ap Cell.joins e)
+          _
+          _
+          refl
+          refl,
+    )
+
+pub returns-then-self-ge-LAST-clause-said : goal.returns-then-self-ge-LAST-clause-said
+returns-then-self-ge-LAST-clause-said c = (
+  c.self.inside.joins_steps,
+  c.self.inside.joins,
+  refl,
+  cell-ends c.args.here.now.image.now _ _ c.self.view_is c.args.here.now.cpu Site.joins c.self.inside.joins_steps (Cell.joins c.self.inside.joins) (FineAct.Unseen Unseen.Sleep) (Exchange.thread c.args.context.now.value None) refl (search arith),
+  refl,
+)

@@ -1,0 +1,29 @@
+use Rattle.std.proofs.Common.{arith, ap, refl}
+use Rattle.um_fine.specs.Cells.{Cell}
+use Rattle.um_fine.specs.Steps.{Exchange, Site}
+use Rattle.um_words.specs.declared.fine.FineAct.{FineAct}
+use Rattle.um_words.specs.declared.fine.Unseen.{Unseen}
+use Rattle.um_tables.proofs.Celled.{cell-ends, cell-taken}
+use Rattle.um_tables.proofs.tables.steps.TablesSites.unshut.Goals as goal
+
+pub returns-clause-said : goal.returns-clause-said
+returns-clause-said c =
+    let kept = c.self.inside.joins in
+    let e = c.unshut.ensures in (
+      c.self.inside.joins_steps,
+      kept,
+      cell-taken c.args.here.now.image.now _ _ c.self.view_is c.args.here.now.cpu Site.joins c.self.inside.joins_steps (Cell.joins kept) (Cell.joins c.unshut.new.self) (FineAct.Unseen (Unseen.Unshut c.args.who)) (Exchange.nothing) refl (omega arith) refl
+          (ap Cell.joins e)
+          _
+          _
+          refl
+          refl,
+    )
+
+pub returns-then-self-ge-LAST-clause-said : goal.returns-then-self-ge-LAST-clause-said
+returns-then-self-ge-LAST-clause-said c = (
+  c.self.inside.joins_steps,
+  c.self.inside.joins,
+  refl,
+  cell-ends c.args.here.now.image.now _ _ c.self.view_is c.args.here.now.cpu Site.joins c.self.inside.joins_steps (Cell.joins c.self.inside.joins) (FineAct.Unseen (Unseen.Unshut c.args.who)) (Exchange.nothing) refl (search arith),
+)

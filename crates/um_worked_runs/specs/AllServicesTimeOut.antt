@@ -1,0 +1,221 @@
+-- Each service times out with EAGAIN, and a pipe takes a part where there is room.
+use Rattle.std.specs.Prelude.{◌≡◌, true, false, List, [], ◌∷◌, Some, None, pos, codes, refl}
+use Rattle.um_base.specs.declared.names.Errno.TheVariants as Errno
+use Rattle.um_base.specs.declared.names.Kind.TheVariants as Kind
+use Rattle.um_base.specs.declared.names.Mode.TheVariants as Mode
+use Rattle.um_base.specs.declared.names.Mpu.TheVariants as Mpu
+use Rattle.um_base.specs.declared.names.Policy.TheVariants as Policy
+use Rattle.um_base.specs.declared.names.Reply.TheVariants as Reply
+use Rattle.um_base.specs.declared.names.Term.TheVariants as Term
+use Rattle.um_base.specs.declared.names.Timeout.TheVariants as Timeout
+use Rattle.um_base.specs.declared.names.Want.TheVariants as Want
+use Rattle.um_base.specs.declared.act.Act.TheVariants as Act
+use Rattle.um_base.specs.declared.act.Answer.TheVariants as Answer
+use Rattle.um_base.specs.declared.act.Leftover.TheVariants as Leftover
+use Rattle.um_base.specs.declared.image.Setup.TheVariants as Setup
+use Rattle.um_base.specs.declared.instr.Instr.TheVariants as Instr
+use Rattle.um_base.specs.declared.act.Event.{Event}
+use Rattle.um_base.specs.declared.image.Image.{Image}
+use Rattle.um_base.specs.declared.image.Script.{Script}
+use Rattle.um_base.specs.Lawful.{IsLawful}
+use Rattle.um_base.specs.Weight.{weight}
+use Rattle.std.proofs.Math.Bridge.{le_by_compare, IsLe}
+use Rattle.um_machine.specs.Run.{blank}
+use Rattle.um_worked_runs.specs.Evaluate.{Choice, skips, begins, exits, ticks, times_out, goes}
+use Rattle.um_worked_runs.specs.Dump.{Dump, started, ended, initialised, uninitialised, nothing, filled, locked}
+use Rattle.um_worked_runs.specs.Words.{at, thread, row, range, rights, by, on, choose}
+use Rattle.um_worked_runs.specs.Whole.{whole_run}
+
+abbrev pub script_0 : Script
+script_0 =
+    record { name = codes "co"; lines = Instr.MutexLock (Term.Num 0x40000200) Timeout.Forever ∷ [] }
+
+abbrev pub script_1 : Script
+script_1 =
+    record {
+      name = codes "ca";
+      lines = Instr.MsgqPut (Term.Num 0x40000100) (Term.Num 0x20000000) Timeout.NoWait
+          ∷ Instr.MsgqPut (Term.Num 0x40000100) (Term.Num 0x20000000) (Timeout.Ticks 1)
+          ∷ Instr.MsgqGet (Term.Num 0x40000140) (Term.Num 0x20000000) (Timeout.Ticks 2)
+          ∷ Instr.StackPop (Term.Num 0x40000180) (Term.Num 0x20000000) (Timeout.Ticks 3)
+          ∷ Instr.PipeRead (Term.Num 0x400001c0) (Term.Num 0x20000000) (Term.Num 4) (Timeout.Ticks 4)
+          ∷ Instr.PipeWrite (Term.Num 0x400001c0) (Term.Num 0x20000000) (Term.Num 3) (Timeout.Ticks 1)
+          ∷ Instr.PipeWrite (Term.Num 0x400001c0) (Term.Num 0x20000000) (Term.Num 2) (Timeout.Ticks 5)
+          ∷ Instr.MutexLock (Term.Num 0x40000200) (Timeout.Ticks 6) ∷ [];
+    }
+
+abbrev pub image : Image
+image =
+    record {
+      mpu = Mpu.V7;
+      regions = 8;
+      policy = Policy.Abort;
+      rodata = None;
+      rodata_bytes = [];
+      pools = [];
+      partitions = record { name = codes "p"; range = range 0x20000000 32; attr = rights 27; bytes = [] } ∷ [];
+      domains = record { name = codes "d"; parts = Some (0 ∷ []) } ∷ [];
+      objects = record { name = codes "o"; kind = Kind.Thread; addr = at 0x40000000; public = false; setup = Setup.Thread (thread 0) }
+          ∷ record { name = codes "so"; kind = Kind.ThreadStack; addr = at 0x20080000; public = false; setup = Setup.ThreadStack (range 0x20080000 32) 32 }
+          ∷ record { name = codes "a"; kind = Kind.Thread; addr = at 0x40000080; public = false; setup = Setup.Thread (thread 1) }
+          ∷ record { name = codes "sa"; kind = Kind.ThreadStack; addr = at 0x20080020; public = false; setup = Setup.ThreadStack (range 0x20080020 32) 32 }
+          ∷ record { name = codes "q"; kind = Kind.Msgq; addr = at 0x40000100; public = false; setup = Setup.Msgq 4 1 }
+          ∷ record { name = codes "e"; kind = Kind.Msgq; addr = at 0x40000140; public = false; setup = Setup.Msgq 4 1 }
+          ∷ record { name = codes "st"; kind = Kind.Stack; addr = at 0x40000180; public = false; setup = Setup.Stack 1 }
+          ∷ record { name = codes "pi"; kind = Kind.Pipe; addr = at 0x400001c0; public = false; setup = Setup.Pipe 2 }
+          ∷ record { name = codes "mu"; kind = Kind.Mutex; addr = at 0x40000200; public = false; setup = Setup.Mutex } ∷ [];
+      boots = record { thread = row 0; stack = row 1; script = 0; mode = Mode.User; priority = pos 0; domain = 0; pool = None; grants = row 8 ∷ [] }
+          ∷ record { thread = row 2; stack = row 3; script = 1; mode = Mode.User; priority = pos 0; domain = 0; pool = None; grants = row 4 ∷ row 5 ∷ row 6 ∷ row 7 ∷ row 8 ∷ [] } ∷ [];
+      scripts = script_0
+          ∷ script_1 ∷ [];
+      futexes = [];
+    }
+
+-- which thread makes each step, and which one
+abbrev pub choices : List Choice
+choices =
+    choose 0 0 begins ∷ on 0 ∷ on 0 ∷ on 0 ∷ choose 1 0 begins ∷ on 1 ∷ on 1 ∷ on 1 ∷ on 1
+    ∷ choose 0 0 exits ∷ on 0 ∷ choose 0 8 goes ∷ choose 0 0 skips ∷ on 0 ∷ choose 1 0 begins ∷ on 1 ∷ on 1
+    ∷ on 1 ∷ on 1 ∷ choose 1 0 ticks ∷ choose 1 4 (times_out 1) ∷ on 1 ∷ on 1 ∷ choose 1 0 begins ∷ on 1
+    ∷ on 1 ∷ on 1 ∷ on 1 ∷ choose 1 0 ticks ∷ choose 1 5 (times_out 1) ∷ on 1 ∷ on 1 ∷ choose 1 0 begins
+    ∷ on 1 ∷ on 1 ∷ on 1 ∷ on 1 ∷ choose 1 0 ticks ∷ choose 1 6 (times_out 1) ∷ on 1 ∷ on 1
+    ∷ choose 1 0 begins ∷ on 1 ∷ on 1 ∷ on 1 ∷ on 1 ∷ choose 1 0 ticks ∷ choose 1 7 (times_out 1) ∷ on 1
+    ∷ on 1 ∷ choose 1 0 begins ∷ on 1 ∷ on 1 ∷ on 1 ∷ on 1 ∷ on 1 ∷ choose 1 0 begins ∷ on 1 ∷ on 1 ∷ on 1
+    ∷ on 1 ∷ choose 1 0 ticks ∷ choose 1 0 ticks ∷ choose 1 7 (times_out 1) ∷ on 1 ∷ on 1 ∷ choose 1 0 begins
+    ∷ on 1 ∷ on 1 ∷ on 1 ∷ choose 1 0 ticks ∷ choose 1 8 (times_out 1) ∷ on 1 ∷ on 1 ∷ choose 1 0 exits
+    ∷ choose 1 2 goes ∷ choose 1 4 goes ∷ choose 1 5 goes ∷ choose 1 6 goes ∷ choose 1 7 goes
+    ∷ choose 1 8 goes ∷ choose 1 0 skips ∷ on 1 ∷ []
+
+-- what the trace shows
+abbrev pub events : List Event
+events =
+    by 0 (Act.Begin 0 1)
+    ∷ by 0 (Act.Check (at 0x40000200) (Some Kind.Mutex) Want.Init None)
+    ∷ by 0 (Act.Work (at 0x40000200) (Answer.Now (Reply.Num 0)) [])
+    ∷ by 0 (Act.Answered (Reply.Num 0))
+    ∷ by 1 (Act.Begin 1 1)
+    ∷ by 1 (Act.Check (at 0x40000100) (Some Kind.Msgq) Want.Init None)
+    ∷ by 1 (Act.CopyIn (at 0x20000000) 4 true)
+    ∷ by 1 (Act.Work (at 0x40000100) (Answer.Now (Reply.Num 0)) [])
+    ∷ by 1 (Act.Answered (Reply.Num 0))
+    ∷ by 0 Act.Exit
+    ∷ by 0 (Act.DropPair (thread 0) (at 0x40000000) Leftover.Kept)
+    ∷ by 0 (Act.DropPair (thread 0) (at 0x40000200) Leftover.Kept)
+    ∷ by 0 (Act.ClearInit (at 0x20080000))
+    ∷ by 0 (Act.ClearInit (at 0x40000000))
+    ∷ by 1 (Act.Begin 1 2)
+    ∷ by 1 (Act.Check (at 0x40000100) (Some Kind.Msgq) Want.Init None)
+    ∷ by 1 (Act.CopyIn (at 0x20000000) 4 true)
+    ∷ by 1 (Act.Arm 1)
+    ∷ by 1 (Act.Work (at 0x40000100) Answer.Wait [])
+    ∷ by 1 (Act.Tick 1)
+    ∷ by 1 (Act.TimedOut (thread 1))
+    ∷ by 1 Act.Resume
+    ∷ by 1 (Act.Answered (Reply.Fail Errno.EAGAIN))
+    ∷ by 1 (Act.Begin 1 3)
+    ∷ by 1 (Act.Check (at 0x40000140) (Some Kind.Msgq) Want.Init None)
+    ∷ by 1 (Act.Probe (at 0x20000000) 4 true)
+    ∷ by 1 (Act.Arm 3)
+    ∷ by 1 (Act.Work (at 0x40000140) Answer.Wait [])
+    ∷ by 1 (Act.Tick 3)
+    ∷ by 1 (Act.TimedOut (thread 1))
+    ∷ by 1 Act.Resume
+    ∷ by 1 (Act.Answered (Reply.Fail Errno.EAGAIN))
+    ∷ by 1 (Act.Begin 1 4)
+    ∷ by 1 (Act.Check (at 0x40000180) (Some Kind.Stack) Want.Init None)
+    ∷ by 1 (Act.Probe (at 0x20000000) 4 true)
+    ∷ by 1 (Act.Arm 6)
+    ∷ by 1 (Act.Work (at 0x40000180) Answer.Wait [])
+    ∷ by 1 (Act.Tick 6)
+    ∷ by 1 (Act.TimedOut (thread 1))
+    ∷ by 1 Act.Resume
+    ∷ by 1 (Act.Answered (Reply.Fail Errno.EAGAIN))
+    ∷ by 1 (Act.Begin 1 5)
+    ∷ by 1 (Act.Check (at 0x400001c0) (Some Kind.Pipe) Want.Init None)
+    ∷ by 1 (Act.Probe (at 0x20000000) 4 true)
+    ∷ by 1 (Act.Arm 10)
+    ∷ by 1 (Act.Work (at 0x400001c0) Answer.Wait [])
+    ∷ by 1 (Act.Tick 10)
+    ∷ by 1 (Act.TimedOut (thread 1))
+    ∷ by 1 Act.Resume
+    ∷ by 1 (Act.Answered (Reply.Fail Errno.EAGAIN))
+    ∷ by 1 (Act.Begin 1 6)
+    ∷ by 1 (Act.Check (at 0x400001c0) (Some Kind.Pipe) Want.Init None)
+    ∷ by 1 (Act.CopyIn (at 0x20000000) 3 true)
+    ∷ by 1 (Act.Arm 11)
+    ∷ by 1 (Act.Work (at 0x400001c0) (Answer.Now (Reply.Num 2)) [])
+    ∷ by 1 (Act.Answered (Reply.Num 2))
+    ∷ by 1 (Act.Begin 1 7)
+    ∷ by 1 (Act.Check (at 0x400001c0) (Some Kind.Pipe) Want.Init None)
+    ∷ by 1 (Act.CopyIn (at 0x20000000) 2 true)
+    ∷ by 1 (Act.Arm 15)
+    ∷ by 1 (Act.Work (at 0x400001c0) Answer.Wait [])
+    ∷ by 1 (Act.Tick 11)
+    ∷ by 1 (Act.Tick 15)
+    ∷ by 1 (Act.TimedOut (thread 1))
+    ∷ by 1 Act.Resume
+    ∷ by 1 (Act.Answered (Reply.Fail Errno.EAGAIN))
+    ∷ by 1 (Act.Begin 1 8)
+    ∷ by 1 (Act.Check (at 0x40000200) (Some Kind.Mutex) Want.Init None)
+    ∷ by 1 (Act.Arm 21)
+    ∷ by 1 (Act.Work (at 0x40000200) Answer.Wait [])
+    ∷ by 1 (Act.Tick 21)
+    ∷ by 1 (Act.TimedOut (thread 1))
+    ∷ by 1 Act.Resume
+    ∷ by 1 (Act.Answered (Reply.Fail Errno.EAGAIN))
+    ∷ by 1 Act.Exit
+    ∷ by 1 (Act.DropPair (thread 1) (at 0x40000080) Leftover.Kept)
+    ∷ by 1 (Act.DropPair (thread 1) (at 0x40000100) Leftover.Kept)
+    ∷ by 1 (Act.DropPair (thread 1) (at 0x40000140) Leftover.Kept)
+    ∷ by 1 (Act.DropPair (thread 1) (at 0x40000180) Leftover.Kept)
+    ∷ by 1 (Act.DropPair (thread 1) (at 0x400001c0) Leftover.Kept)
+    ∷ by 1 (Act.DropPair (thread 1) (at 0x40000200) Leftover.Kept)
+    ∷ by 1 (Act.ClearInit (at 0x20080020))
+    ∷ by 1 (Act.ClearInit (at 0x40000080)) ∷ []
+
+abbrev pub dump : Dump
+dump =
+    record {
+      threads = started 0 ended Mode.User (pos 0) 0
+          ∷ started 1 ended Mode.User (pos 0) 0 ∷ [];
+      objects = record { row = 0; kind = Some Kind.Thread; stage = uninitialised; public = false; holders = []; content = nothing }
+          ∷ record { row = 1; kind = Some Kind.ThreadStack; stage = uninitialised; public = false; holders = []; content = nothing }
+          ∷ record { row = 2; kind = Some Kind.Thread; stage = uninitialised; public = false; holders = []; content = nothing }
+          ∷ record { row = 3; kind = Some Kind.ThreadStack; stage = uninitialised; public = false; holders = []; content = nothing }
+          ∷ record { row = 4; kind = Some Kind.Msgq; stage = initialised; public = false; holders = []; content = filled 1 1 }
+          ∷ record { row = 5; kind = Some Kind.Msgq; stage = initialised; public = false; holders = []; content = filled 0 1 }
+          ∷ record { row = 6; kind = Some Kind.Stack; stage = initialised; public = false; holders = []; content = filled 0 1 }
+          ∷ record { row = 7; kind = Some Kind.Pipe; stage = initialised; public = false; holders = []; content = filled 2 2 }
+          ∷ record { row = 8; kind = Some Kind.Mutex; stage = initialised; public = false; holders = []; content = locked 0 1 } ∷ [];
+      domains = Some ((range 0x20000000 32, rights 27) ∷ []) ∷ [];
+      pools = [];
+      memory = [];
+    }
+
+pub is_lawful : IsLawful image
+unfolding IsLe
+is_lawful = record {
+  regions = refl;
+  names = refl;
+  distinct = refl;
+  rodata = refl;
+  pools = refl;
+  partitions = refl;
+  partitions_placed = record { starts_are = refl; fit = le_by_compare 32 524288 tt };
+  domains = refl;
+  objects = refl;
+  indices = refl;
+  rows = refl;
+  stacks_placed = record { starts_are = refl; fit = le_by_compare 64 524288 tt };
+  boots = refl;
+  boot_threads = refl;
+  boot_stacks = refl;
+  scripts = refl;
+  futexes = refl;
+  futexes_apart = refl;
+  light = le_by_compare (weight image) 400000 tt;
+}
+
+pub runs : whole_run image choices ≡ record { events = events; is_lawful = true; is_complete = true; dump = dump }
+unfolding blank
+runs = refl

@@ -1,0 +1,269 @@
+-- A parent joins its child, creates it again, and joins it in its second life.
+use Rattle.std.specs.Prelude.{◌≡◌, ℕ, true, false, List, [], ◌∷◌, Some, None, pos, codes, refl}
+use Rattle.um_base.specs.declared.names.Kind.TheVariants as Kind
+use Rattle.um_base.specs.declared.names.Mode.TheVariants as Mode
+use Rattle.um_base.specs.declared.names.Mpu.TheVariants as Mpu
+use Rattle.um_base.specs.declared.names.Policy.TheVariants as Policy
+use Rattle.um_base.specs.declared.names.Ref.TheVariants as Ref
+use Rattle.um_base.specs.declared.names.Reply.TheVariants as Reply
+use Rattle.um_base.specs.declared.names.Term.TheVariants as Term
+use Rattle.um_base.specs.declared.names.Timeout.TheVariants as Timeout
+use Rattle.um_base.specs.declared.names.Want.TheVariants as Want
+use Rattle.um_base.specs.declared.act.Act.TheVariants as Act
+use Rattle.um_base.specs.declared.act.Answer.TheVariants as Answer
+use Rattle.um_base.specs.declared.act.Given.TheVariants as Given
+use Rattle.um_base.specs.declared.act.Leftover.TheVariants as Leftover
+use Rattle.um_base.specs.declared.act.SetSaid.TheVariants as SetSaid
+use Rattle.um_base.specs.declared.image.Setup.TheVariants as Setup
+use Rattle.um_base.specs.declared.instr.Instr.TheVariants as Instr
+use Rattle.um_base.specs.declared.act.Event.{Event}
+use Rattle.um_base.specs.declared.image.Image.{Image}
+use Rattle.um_base.specs.declared.image.Script.{Script}
+use Rattle.um_worked_runs.specs.Fine.Left.{without_priorities}
+use Rattle.um_worked_runs.specs.Fine.Brief.{Brief}
+use Rattle.um_worked_runs.specs.Fine.Whole.{whole_fine_run}
+use Rattle.um_worked_runs.specs.Fine.Related.{related_steps}
+use Rattle.um_machine.specs.Run.{blank}
+use Rattle.um_worked_runs.specs.Evaluate.{Choice, skips, begins, exits, leaves, ticks, goes}
+use Rattle.um_worked_runs.specs.Dump.{Dump, started, ended, uninitialised, nothing}
+use Rattle.um_worked_runs.specs.Words.{at, thread, row, range, by, on, choose}
+use Rattle.um_worked_runs.specs.Whole.{whole_run}
+
+abbrev pub script_0 : Script
+script_0 =
+    record {
+      name = codes "ca";
+      lines = Instr.Create (Term.Num 0x40000080) (Term.Num 0x20080040) (Term.Num 64) (Ref.At 1) (pos 3) (record { user = true; inherit = false; essential = false })
+          ∷ Instr.Join (Term.Num 0x40000080) Timeout.Forever
+          ∷ Instr.Create (Term.Num 0x40000080) (Term.Num 0x20080040) (Term.Num 64) (Ref.At 1) (pos 3) (record { user = true; inherit = false; essential = false })
+          ∷ Instr.Join (Term.Num 0x40000080) (Timeout.Ticks 5) ∷ [];
+    }
+
+abbrev pub script_1 : Script
+script_1 =
+    record {
+      name = codes "kid";
+      lines = Instr.Set 0 (Term.Num 1)
+          ∷ Instr.Set 0 (Term.Num 1) ∷ [];
+    }
+
+abbrev pub image : Image
+image =
+    record {
+      mpu = Mpu.V7;
+      regions = 8;
+      policy = Policy.Abort;
+      rodata = None;
+      rodata_bytes = [];
+      pools = [];
+      partitions = [];
+      domains = record { name = codes "d"; parts = Some [] } ∷ [];
+      objects = record { name = codes "a"; kind = Kind.Thread; addr = at 0x40000000; public = true; setup = Setup.Thread (thread 0) }
+          ∷ record { name = codes "sa"; kind = Kind.ThreadStack; addr = at 0x20080000; public = false; setup = Setup.ThreadStack (range 0x20080000 64) 64 }
+          ∷ record { name = codes "b"; kind = Kind.Thread; addr = at 0x40000080; public = true; setup = Setup.Thread (thread 1) }
+          ∷ record { name = codes "sb"; kind = Kind.ThreadStack; addr = at 0x20080040; public = false; setup = Setup.ThreadStack (range 0x20080040 64) 64 } ∷ [];
+      boots = record { thread = row 0; stack = row 1; script = 0; mode = Mode.User; priority = pos 0; domain = 0; pool = None; grants = row 2 ∷ row 3 ∷ [] } ∷ [];
+      scripts = script_0
+          ∷ script_1 ∷ [];
+      futexes = [];
+    }
+
+-- which thread makes each step, and which one
+abbrev pub choices : List Choice
+choices =
+    choose 0 0 begins ∷ on 0 ∷ on 0 ∷ on 0 ∷ on 0 ∷ on 0 ∷ on 0 ∷ on 0 ∷ on 0 ∷ choose 1 0 begins
+    ∷ choose 1 0 begins ∷ choose 0 0 begins ∷ on 0 ∷ on 0 ∷ choose 1 0 exits ∷ choose 1 2 goes
+    ∷ choose 1 0 skips ∷ choose 1 0 leaves ∷ on 1 ∷ on 0 ∷ on 0 ∷ choose 0 0 begins ∷ on 0 ∷ on 0 ∷ on 0
+    ∷ on 0 ∷ on 0 ∷ on 0 ∷ on 0 ∷ choose 1 0 begins ∷ on 0 ∷ choose 1 0 begins ∷ choose 1 0 exits
+    ∷ choose 0 0 begins ∷ on 0 ∷ on 0 ∷ choose 1 2 goes ∷ on 0 ∷ choose 1 0 skips ∷ choose 1 0 leaves ∷ on 1
+    ∷ on 0 ∷ on 0 ∷ choose 0 0 exits ∷ on 0 ∷ choose 0 2 goes ∷ choose 0 3 goes ∷ choose 0 0 skips ∷ on 0
+    ∷ choose 0 0 ticks ∷ []
+
+-- what the trace shows
+abbrev pub events : List Event
+events =
+    by 0 (Act.Begin 0 1)
+    ∷ by 0 (Act.Check (at 0x40000080) (Some Kind.Thread) Want.Uninit None)
+    ∷ by 0 (Act.Check (at 0x20080040) (Some Kind.ThreadStack) Want.Uninit None)
+    ∷ by 0 (Act.SetInit (at 0x40000080) SetSaid.Done)
+    ∷ by 0 (Act.SetInit (at 0x20080040) SetSaid.Done)
+    ∷ by 0 (Act.Erase (row 3))
+    ∷ by 0 (Act.Own (thread 1) Given.Done)
+    ∷ by 0 (Act.Start (thread 1))
+    ∷ by 0 (Act.Answered (Reply.At (at 0x40000080)))
+    ∷ by 1 (Act.Begin 1 1)
+    ∷ by 1 (Act.Begin 1 2)
+    ∷ by 0 (Act.Begin 0 2)
+    ∷ by 0 (Act.Check (at 0x40000080) (Some Kind.Thread) Want.Init None)
+    ∷ by 0 (Act.Join (thread 1) Answer.Wait)
+    ∷ by 1 Act.Exit
+    ∷ by 1 (Act.DropPair (thread 1) (at 0x40000080) Leftover.Kept)
+    ∷ by 1 (Act.ClearInit (at 0x20080040))
+    ∷ by 1 (Act.Left (thread 1) ((thread 0, Reply.Num 0) ∷ []))
+    ∷ by 1 (Act.ClearInit (at 0x40000080))
+    ∷ by 0 Act.Resume
+    ∷ by 0 (Act.Answered (Reply.Num 0))
+    ∷ by 0 (Act.Begin 0 3)
+    ∷ by 0 (Act.Check (at 0x40000080) (Some Kind.Thread) Want.Uninit None)
+    ∷ by 0 (Act.Check (at 0x20080040) (Some Kind.ThreadStack) Want.Uninit None)
+    ∷ by 0 (Act.SetInit (at 0x40000080) SetSaid.Done)
+    ∷ by 0 (Act.SetInit (at 0x20080040) SetSaid.Done)
+    ∷ by 0 (Act.Erase (row 3))
+    ∷ by 0 (Act.Own (thread 1) Given.Done)
+    ∷ by 0 (Act.Start (thread 1))
+    ∷ by 1 (Act.Begin 1 1)
+    ∷ by 0 (Act.Answered (Reply.At (at 0x40000080)))
+    ∷ by 1 (Act.Begin 1 2)
+    ∷ by 1 Act.Exit
+    ∷ by 0 (Act.Begin 0 4)
+    ∷ by 0 (Act.Check (at 0x40000080) (Some Kind.Thread) Want.Init None)
+    ∷ by 0 (Act.Arm 5)
+    ∷ by 1 (Act.DropPair (thread 1) (at 0x40000080) Leftover.Kept)
+    ∷ by 0 (Act.Join (thread 1) Answer.Wait)
+    ∷ by 1 (Act.ClearInit (at 0x20080040))
+    ∷ by 1 (Act.Left (thread 1) ((thread 0, Reply.Num 0) ∷ []))
+    ∷ by 1 (Act.ClearInit (at 0x40000080))
+    ∷ by 0 Act.Resume
+    ∷ by 0 (Act.Answered (Reply.Num 0))
+    ∷ by 0 Act.Exit
+    ∷ by 0 (Act.DropPair (thread 0) (at 0x40000000) Leftover.Kept)
+    ∷ by 0 (Act.DropPair (thread 0) (at 0x40000080) Leftover.Kept)
+    ∷ by 0 (Act.DropPair (thread 0) (at 0x20080040) Leftover.Kept)
+    ∷ by 0 (Act.ClearInit (at 0x20080000))
+    ∷ by 0 (Act.ClearInit (at 0x40000000))
+    ∷ by 0 (Act.Tick 5) ∷ []
+
+abbrev pub dump : Dump
+dump =
+    record {
+      threads = started 0 ended Mode.User (pos 0) 0
+          ∷ started 1 ended Mode.User (pos 3) 0 ∷ [];
+      objects = record { row = 0; kind = Some Kind.Thread; stage = uninitialised; public = true; holders = []; content = nothing }
+          ∷ record { row = 1; kind = Some Kind.ThreadStack; stage = uninitialised; public = false; holders = []; content = nothing }
+          ∷ record { row = 2; kind = Some Kind.Thread; stage = uninitialised; public = true; holders = []; content = nothing }
+          ∷ record { row = 3; kind = Some Kind.ThreadStack; stage = uninitialised; public = false; holders = []; content = nothing } ∷ [];
+      domains = Some [] ∷ [];
+      pools = [];
+      memory = [];
+    }
+
+pub runs : whole_run image choices ≡ record { events = events; is_lawful = true; is_complete = true; dump = dump }
+unfolding blank
+runs = refl
+
+-- which processor makes each step
+abbrev pub processors : List ℕ
+processors =
+    0 ∷ 0 ∷ 0 ∷ 0 ∷ 0 ∷ 0 ∷ 0 ∷ 0 ∷ 0 ∷ 0 ∷ 0 ∷ 0 ∷ 0 ∷ 0 ∷ 1 ∷ 0 ∷ 0 ∷ 1 ∷ 1 ∷ 1 ∷ 0 ∷ 1 ∷ 1 ∷ 1 ∷ 1 ∷ 1
+    ∷ 0 ∷ 1 ∷ 1 ∷ 1 ∷ 1 ∷ 0 ∷ 0 ∷ 0 ∷ 0 ∷ 0 ∷ 0 ∷ 0 ∷ 0 ∷ 0 ∷ 0 ∷ 0 ∷ 0 ∷ 0 ∷ 0 ∷ 0 ∷ 0 ∷ 0 ∷ 0 ∷ 0 ∷ 0 ∷ 0
+    ∷ 0 ∷ 0 ∷ 0 ∷ 0 ∷ 0 ∷ 0 ∷ 0 ∷ 0 ∷ 0 ∷ 0 ∷ 0 ∷ 0 ∷ 0 ∷ 0 ∷ 0 ∷ 0 ∷ 0 ∷ 0 ∷ 0 ∷ 0 ∷ 0 ∷ 0 ∷ 0 ∷ 0 ∷ 0 ∷ 0
+    ∷ 0 ∷ 0 ∷ 0 ∷ 0 ∷ 0 ∷ 0 ∷ 0 ∷ 0 ∷ 0 ∷ 0 ∷ 0 ∷ 0 ∷ 0 ∷ 0 ∷ 0 ∷ 0 ∷ 0 ∷ 0 ∷ 0 ∷ 0 ∷ 0 ∷ 0 ∷ 0 ∷ 0 ∷ 0 ∷ 0
+    ∷ 0 ∷ 0 ∷ 0 ∷ 0 ∷ 0 ∷ 0 ∷ 0 ∷ 0 ∷ 0 ∷ 0 ∷ 0 ∷ 0 ∷ 0 ∷ 0 ∷ 0 ∷ 0 ∷ 0 ∷ 0 ∷ 0 ∷ 0 ∷ 0 ∷ 0 ∷ 0 ∷ 0 ∷ 0 ∷ 0
+    ∷ 0 ∷ 0 ∷ 0 ∷ 0 ∷ 0 ∷ 0 ∷ 0 ∷ 0 ∷ 0 ∷ 0 ∷ 0 ∷ 0 ∷ 0 ∷ 0 ∷ 0 ∷ 0 ∷ 0 ∷ 0 ∷ 0 ∷ 0 ∷ 0 ∷ 0 ∷ 0 ∷ 0 ∷ 0 ∷ 0
+    ∷ 0 ∷ 0 ∷ 0 ∷ 0 ∷ 0 ∷ 0 ∷ 0 ∷ 0 ∷ 0 ∷ 0 ∷ 1 ∷ 1 ∷ 1 ∷ 1 ∷ 0 ∷ 0 ∷ 0 ∷ 0 ∷ 0 ∷ 0 ∷ 0 ∷ 0 ∷ 0 ∷ 0 ∷ 0 ∷ 0
+    ∷ 0 ∷ 1 ∷ 1 ∷ 0 ∷ 1 ∷ 1 ∷ 0 ∷ 1 ∷ 1 ∷ 1 ∷ 1 ∷ 0 ∷ 0 ∷ 0 ∷ 1 ∷ 0 ∷ 0 ∷ 0 ∷ 0 ∷ 1 ∷ 0 ∷ 1 ∷ 1 ∷ 0 ∷ 1 ∷ 1
+    ∷ 0 ∷ 1 ∷ 0 ∷ 1 ∷ 0 ∷ 1 ∷ 1 ∷ 1 ∷ 1 ∷ 1 ∷ 1 ∷ 1 ∷ 1 ∷ 1 ∷ 1 ∷ 1 ∷ 1 ∷ 1 ∷ 1 ∷ 1 ∷ 1 ∷ 1 ∷ 1 ∷ 1 ∷ 1 ∷ 1
+    ∷ 1 ∷ 1 ∷ 1 ∷ 1 ∷ 1 ∷ 1 ∷ 1 ∷ 1 ∷ 1 ∷ 1 ∷ 1 ∷ 1 ∷ 1 ∷ 1 ∷ 1 ∷ 1 ∷ 1 ∷ 1 ∷ 1 ∷ 1 ∷ 1 ∷ 1 ∷ 1 ∷ 1 ∷ 1 ∷ 1
+    ∷ 1 ∷ 1 ∷ 1 ∷ 1 ∷ 1 ∷ 1 ∷ 1 ∷ 1 ∷ 1 ∷ 1 ∷ 1 ∷ 1 ∷ 1 ∷ 1 ∷ 1 ∷ 1 ∷ 1 ∷ 1 ∷ 1 ∷ 1 ∷ 1 ∷ 1 ∷ 1 ∷ 1 ∷ 1 ∷ 1
+    ∷ 1 ∷ 1 ∷ 1 ∷ 1 ∷ 1 ∷ 1 ∷ 1 ∷ 1 ∷ 1 ∷ 1 ∷ 1 ∷ 1 ∷ 1 ∷ 1 ∷ 1 ∷ 1 ∷ 1 ∷ 1 ∷ 1 ∷ 1 ∷ 1 ∷ 1 ∷ 1 ∷ 1 ∷ 1 ∷ 1
+    ∷ 1 ∷ 1 ∷ 1 ∷ 1 ∷ 1 ∷ 1 ∷ 1 ∷ 1 ∷ 1 ∷ 1 ∷ 1 ∷ 1 ∷ 1 ∷ 1 ∷ 1 ∷ 1 ∷ 1 ∷ 1 ∷ 1 ∷ 1 ∷ 1 ∷ 1 ∷ 1 ∷ 1 ∷ 1 ∷ 0
+    ∷ 1 ∷ 0 ∷ 0 ∷ 0 ∷ 1 ∷ 0 ∷ 0 ∷ 0 ∷ 0 ∷ 0 ∷ 0 ∷ 0 ∷ 0 ∷ 0 ∷ 0 ∷ 0 ∷ 0 ∷ 0 ∷ 0 ∷ 0 ∷ 0 ∷ 0 ∷ 0 ∷ 0 ∷ 0 ∷ 0
+    ∷ 0 ∷ 0 ∷ 0 ∷ 0 ∷ 0 ∷ 0 ∷ 0 ∷ 0 ∷ 0 ∷ 0 ∷ 0 ∷ 0 ∷ 0 ∷ 0 ∷ 0 ∷ 0 ∷ 0 ∷ 0 ∷ 0 ∷ 0 ∷ 0 ∷ 0 ∷ 0 ∷ 0 ∷ 0 ∷ 0
+    ∷ 0 ∷ 0 ∷ 0 ∷ 0 ∷ 0 ∷ 0 ∷ 0 ∷ 0 ∷ 0 ∷ 0 ∷ 0 ∷ 0 ∷ 0 ∷ 0 ∷ 0 ∷ 0 ∷ 0 ∷ 0 ∷ 0 ∷ 0 ∷ 0 ∷ 0 ∷ 0 ∷ 0 ∷ 0 ∷ 0
+    ∷ 0 ∷ 0 ∷ 0 ∷ 0 ∷ 0 ∷ 0 ∷ 0 ∷ 0 ∷ 0 ∷ 0 ∷ 0 ∷ 0 ∷ 0 ∷ 0 ∷ 0 ∷ 0 ∷ 0 ∷ 0 ∷ 0 ∷ 0 ∷ 0 ∷ 0 ∷ 0 ∷ 0 ∷ 0 ∷ 0
+    ∷ 0 ∷ 0 ∷ 0 ∷ 0 ∷ 0 ∷ 0 ∷ 0 ∷ 0 ∷ 0 ∷ 0 ∷ 0 ∷ 0 ∷ 0 ∷ 0 ∷ 0 ∷ 0 ∷ 0 ∷ 0 ∷ 0 ∷ 0 ∷ 0 ∷ 0 ∷ 0 ∷ 0 ∷ 0 ∷ 0
+    ∷ 0 ∷ 0 ∷ 0 ∷ 0 ∷ 0 ∷ 0 ∷ 0 ∷ 0 ∷ 0 ∷ 0 ∷ 0 ∷ 1 ∷ 1 ∷ 1 ∷ []
+
+-- the steps: processor, site, the step's number there, and which unseen step it is
+abbrev pub steps : List Brief
+steps =
+    (0, 306, 1, 15) ∷ (0, 128, 1, 0) ∷ (0, 2, 1, 0) ∷ (0, 3, 1, 0) ∷ (0, 2, 2, 0) ∷ (0, 3, 2, 0)
+    ∷ (0, 304, 1, 0) ∷ (0, 2, 3, 0) ∷ (0, 128, 2, 4) ∷ (0, 308, 1, 28) ∷ (0, 129, 1, 0) ∷ (0, 128, 3, 5)
+    ∷ (0, 306, 2, 13) ∷ (0, 128, 4, 0) ∷ (1, 306, 3, 15) ∷ (0, 2, 4, 1) ∷ (0, 3, 3, 1) ∷ (1, 129, 2, 0)
+    ∷ (1, 306, 4, 16) ∷ (1, 306, 5, 15) ∷ (0, 306, 6, 16) ∷ (1, 129, 3, 0) ∷ (1, 306, 7, 16) ∷ (1, 306, 8, 15)
+    ∷ (1, 128, 5, 0) ∷ (1, 2, 5, 0) ∷ (0, 306, 9, 15) ∷ (1, 128, 6, 24) ∷ (1, 308, 2, 0) ∷ (1, 128, 7, 18)
+    ∷ (1, 306, 10, 16) ∷ (0, 129, 4, 0) ∷ (0, 0, 1, 2) ∷ (0, 1, 1, 2) ∷ (0, 2, 6, 0) ∷ (0, 3, 4, 2)
+    ∷ (0, 4, 1, 2) ∷ (0, 5, 1, 2) ∷ (0, 6, 1, 2) ∷ (0, 7, 1, 2) ∷ (0, 8, 1, 2) ∷ (0, 9, 1, 2) ∷ (0, 10, 1, 2)
+    ∷ (0, 11, 1, 2) ∷ (0, 12, 1, 2) ∷ (0, 13, 1, 2) ∷ (0, 14, 1, 2) ∷ (0, 15, 1, 2) ∷ (0, 16, 1, 2)
+    ∷ (0, 17, 1, 2) ∷ (0, 18, 1, 2) ∷ (0, 19, 1, 2) ∷ (0, 20, 1, 2) ∷ (0, 21, 1, 2) ∷ (0, 22, 1, 2)
+    ∷ (0, 23, 1, 2) ∷ (0, 24, 1, 2) ∷ (0, 25, 1, 2) ∷ (0, 26, 1, 2) ∷ (0, 27, 1, 2) ∷ (0, 28, 1, 2)
+    ∷ (0, 29, 1, 2) ∷ (0, 30, 1, 2) ∷ (0, 31, 1, 2) ∷ (0, 32, 1, 2) ∷ (0, 33, 1, 2) ∷ (0, 34, 1, 2)
+    ∷ (0, 35, 1, 2) ∷ (0, 36, 1, 2) ∷ (0, 37, 1, 2) ∷ (0, 38, 1, 2) ∷ (0, 39, 1, 2) ∷ (0, 40, 1, 2)
+    ∷ (0, 41, 1, 2) ∷ (0, 42, 1, 2) ∷ (0, 43, 1, 2) ∷ (0, 44, 1, 2) ∷ (0, 45, 1, 2) ∷ (0, 46, 1, 2)
+    ∷ (0, 47, 1, 2) ∷ (0, 48, 1, 2) ∷ (0, 49, 1, 2) ∷ (0, 50, 1, 2) ∷ (0, 51, 1, 2) ∷ (0, 52, 1, 2)
+    ∷ (0, 53, 1, 2) ∷ (0, 54, 1, 2) ∷ (0, 55, 1, 2) ∷ (0, 56, 1, 2) ∷ (0, 57, 1, 2) ∷ (0, 58, 1, 2)
+    ∷ (0, 59, 1, 2) ∷ (0, 60, 1, 2) ∷ (0, 61, 1, 2) ∷ (0, 62, 1, 2) ∷ (0, 63, 1, 2) ∷ (0, 64, 1, 2)
+    ∷ (0, 65, 1, 2) ∷ (0, 66, 1, 2) ∷ (0, 67, 1, 2) ∷ (0, 68, 1, 2) ∷ (0, 69, 1, 2) ∷ (0, 70, 1, 2)
+    ∷ (0, 71, 1, 2) ∷ (0, 72, 1, 2) ∷ (0, 73, 1, 2) ∷ (0, 74, 1, 2) ∷ (0, 75, 1, 2) ∷ (0, 76, 1, 2)
+    ∷ (0, 77, 1, 2) ∷ (0, 78, 1, 2) ∷ (0, 79, 1, 2) ∷ (0, 80, 1, 2) ∷ (0, 81, 1, 2) ∷ (0, 82, 1, 2)
+    ∷ (0, 83, 1, 2) ∷ (0, 84, 1, 2) ∷ (0, 85, 1, 2) ∷ (0, 86, 1, 2) ∷ (0, 87, 1, 2) ∷ (0, 88, 1, 2)
+    ∷ (0, 89, 1, 2) ∷ (0, 90, 1, 2) ∷ (0, 91, 1, 2) ∷ (0, 92, 1, 2) ∷ (0, 93, 1, 2) ∷ (0, 94, 1, 2)
+    ∷ (0, 95, 1, 2) ∷ (0, 96, 1, 2) ∷ (0, 97, 1, 2) ∷ (0, 98, 1, 2) ∷ (0, 99, 1, 2) ∷ (0, 100, 1, 2)
+    ∷ (0, 101, 1, 2) ∷ (0, 102, 1, 2) ∷ (0, 103, 1, 2) ∷ (0, 104, 1, 2) ∷ (0, 105, 1, 2) ∷ (0, 106, 1, 2)
+    ∷ (0, 107, 1, 2) ∷ (0, 108, 1, 2) ∷ (0, 109, 1, 2) ∷ (0, 110, 1, 2) ∷ (0, 111, 1, 2) ∷ (0, 112, 1, 2)
+    ∷ (0, 113, 1, 2) ∷ (0, 114, 1, 2) ∷ (0, 115, 1, 2) ∷ (0, 116, 1, 2) ∷ (0, 117, 1, 2) ∷ (0, 118, 1, 2)
+    ∷ (0, 119, 1, 2) ∷ (0, 120, 1, 2) ∷ (0, 121, 1, 2) ∷ (0, 122, 1, 2) ∷ (0, 123, 1, 2) ∷ (0, 124, 1, 2)
+    ∷ (0, 125, 1, 2) ∷ (0, 126, 1, 2) ∷ (0, 127, 1, 2) ∷ (0, 3, 5, 0) ∷ (0, 308, 3, 0) ∷ (0, 306, 11, 14)
+    ∷ (0, 2, 7, 0) ∷ (0, 2, 8, 1) ∷ (0, 306, 12, 17) ∷ (1, 306, 13, 0) ∷ (1, 128, 8, 0) ∷ (1, 2, 9, 1)
+    ∷ (1, 306, 14, 16) ∷ (0, 306, 15, 15) ∷ (0, 128, 9, 0) ∷ (0, 2, 10, 0) ∷ (0, 3, 6, 0) ∷ (0, 2, 11, 0)
+    ∷ (0, 3, 7, 0) ∷ (0, 304, 2, 0) ∷ (0, 2, 12, 0) ∷ (0, 128, 10, 4) ∷ (0, 308, 4, 28) ∷ (0, 129, 5, 0)
+    ∷ (0, 128, 11, 5) ∷ (0, 306, 16, 13) ∷ (1, 306, 17, 15) ∷ (1, 129, 6, 0) ∷ (0, 128, 12, 0)
+    ∷ (1, 306, 18, 16) ∷ (1, 306, 19, 15) ∷ (0, 2, 13, 1) ∷ (1, 129, 7, 0) ∷ (1, 306, 20, 16)
+    ∷ (1, 306, 21, 15) ∷ (1, 129, 8, 0) ∷ (0, 3, 8, 1) ∷ (0, 306, 22, 16) ∷ (0, 306, 23, 15) ∷ (1, 0, 2, 2)
+    ∷ (0, 128, 13, 0) ∷ (0, 2, 14, 0) ∷ (0, 128, 14, 24) ∷ (0, 306, 24, 19) ∷ (1, 1, 2, 2) ∷ (0, 307, 1, 0)
+    ∷ (1, 2, 15, 0) ∷ (1, 3, 9, 2) ∷ (0, 308, 5, 0) ∷ (1, 4, 2, 2) ∷ (1, 5, 2, 2) ∷ (0, 307, 2, 21)
+    ∷ (1, 6, 2, 2) ∷ (0, 128, 15, 18) ∷ (1, 7, 2, 2) ∷ (0, 306, 25, 16) ∷ (1, 8, 2, 2) ∷ (1, 9, 2, 2)
+    ∷ (1, 10, 2, 2) ∷ (1, 11, 2, 2) ∷ (1, 12, 2, 2) ∷ (1, 13, 2, 2) ∷ (1, 14, 2, 2) ∷ (1, 15, 2, 2)
+    ∷ (1, 16, 2, 2) ∷ (1, 17, 2, 2) ∷ (1, 18, 2, 2) ∷ (1, 19, 2, 2) ∷ (1, 20, 2, 2) ∷ (1, 21, 2, 2)
+    ∷ (1, 22, 2, 2) ∷ (1, 23, 2, 2) ∷ (1, 24, 2, 2) ∷ (1, 25, 2, 2) ∷ (1, 26, 2, 2) ∷ (1, 27, 2, 2)
+    ∷ (1, 28, 2, 2) ∷ (1, 29, 2, 2) ∷ (1, 30, 2, 2) ∷ (1, 31, 2, 2) ∷ (1, 32, 2, 2) ∷ (1, 33, 2, 2)
+    ∷ (1, 34, 2, 2) ∷ (1, 35, 2, 2) ∷ (1, 36, 2, 2) ∷ (1, 37, 2, 2) ∷ (1, 38, 2, 2) ∷ (1, 39, 2, 2)
+    ∷ (1, 40, 2, 2) ∷ (1, 41, 2, 2) ∷ (1, 42, 2, 2) ∷ (1, 43, 2, 2) ∷ (1, 44, 2, 2) ∷ (1, 45, 2, 2)
+    ∷ (1, 46, 2, 2) ∷ (1, 47, 2, 2) ∷ (1, 48, 2, 2) ∷ (1, 49, 2, 2) ∷ (1, 50, 2, 2) ∷ (1, 51, 2, 2)
+    ∷ (1, 52, 2, 2) ∷ (1, 53, 2, 2) ∷ (1, 54, 2, 2) ∷ (1, 55, 2, 2) ∷ (1, 56, 2, 2) ∷ (1, 57, 2, 2)
+    ∷ (1, 58, 2, 2) ∷ (1, 59, 2, 2) ∷ (1, 60, 2, 2) ∷ (1, 61, 2, 2) ∷ (1, 62, 2, 2) ∷ (1, 63, 2, 2)
+    ∷ (1, 64, 2, 2) ∷ (1, 65, 2, 2) ∷ (1, 66, 2, 2) ∷ (1, 67, 2, 2) ∷ (1, 68, 2, 2) ∷ (1, 69, 2, 2)
+    ∷ (1, 70, 2, 2) ∷ (1, 71, 2, 2) ∷ (1, 72, 2, 2) ∷ (1, 73, 2, 2) ∷ (1, 74, 2, 2) ∷ (1, 75, 2, 2)
+    ∷ (1, 76, 2, 2) ∷ (1, 77, 2, 2) ∷ (1, 78, 2, 2) ∷ (1, 79, 2, 2) ∷ (1, 80, 2, 2) ∷ (1, 81, 2, 2)
+    ∷ (1, 82, 2, 2) ∷ (1, 83, 2, 2) ∷ (1, 84, 2, 2) ∷ (1, 85, 2, 2) ∷ (1, 86, 2, 2) ∷ (1, 87, 2, 2)
+    ∷ (1, 88, 2, 2) ∷ (1, 89, 2, 2) ∷ (1, 90, 2, 2) ∷ (1, 91, 2, 2) ∷ (1, 92, 2, 2) ∷ (1, 93, 2, 2)
+    ∷ (1, 94, 2, 2) ∷ (1, 95, 2, 2) ∷ (1, 96, 2, 2) ∷ (1, 97, 2, 2) ∷ (1, 98, 2, 2) ∷ (1, 99, 2, 2)
+    ∷ (1, 100, 2, 2) ∷ (1, 101, 2, 2) ∷ (1, 102, 2, 2) ∷ (1, 103, 2, 2) ∷ (1, 104, 2, 2) ∷ (1, 105, 2, 2)
+    ∷ (1, 106, 2, 2) ∷ (1, 107, 2, 2) ∷ (1, 108, 2, 2) ∷ (1, 109, 2, 2) ∷ (1, 110, 2, 2) ∷ (1, 111, 2, 2)
+    ∷ (1, 112, 2, 2) ∷ (1, 113, 2, 2) ∷ (1, 114, 2, 2) ∷ (1, 115, 2, 2) ∷ (1, 116, 2, 2) ∷ (1, 117, 2, 2)
+    ∷ (1, 118, 2, 2) ∷ (1, 119, 2, 2) ∷ (1, 120, 2, 2) ∷ (1, 121, 2, 2) ∷ (1, 122, 2, 2) ∷ (1, 123, 2, 2)
+    ∷ (1, 124, 2, 2) ∷ (1, 125, 2, 2) ∷ (1, 126, 2, 2) ∷ (1, 127, 2, 2) ∷ (1, 3, 10, 0) ∷ (1, 308, 6, 0)
+    ∷ (1, 306, 26, 14) ∷ (1, 2, 16, 0) ∷ (0, 306, 27, 0) ∷ (1, 2, 17, 1) ∷ (0, 128, 16, 0) ∷ (0, 2, 18, 1)
+    ∷ (0, 306, 28, 16) ∷ (1, 306, 29, 17) ∷ (0, 306, 30, 15) ∷ (0, 128, 17, 0) ∷ (0, 0, 3, 0) ∷ (0, 1, 3, 2)
+    ∷ (0, 2, 19, 0) ∷ (0, 3, 11, 0) ∷ (0, 4, 3, 2) ∷ (0, 5, 3, 2) ∷ (0, 6, 3, 2) ∷ (0, 7, 3, 2) ∷ (0, 8, 3, 2)
+    ∷ (0, 9, 3, 2) ∷ (0, 10, 3, 2) ∷ (0, 11, 3, 2) ∷ (0, 12, 3, 2) ∷ (0, 13, 3, 2) ∷ (0, 14, 3, 2)
+    ∷ (0, 15, 3, 2) ∷ (0, 16, 3, 2) ∷ (0, 17, 3, 2) ∷ (0, 18, 3, 2) ∷ (0, 19, 3, 2) ∷ (0, 20, 3, 2)
+    ∷ (0, 21, 3, 2) ∷ (0, 22, 3, 2) ∷ (0, 23, 3, 2) ∷ (0, 24, 3, 2) ∷ (0, 25, 3, 2) ∷ (0, 26, 3, 2)
+    ∷ (0, 27, 3, 2) ∷ (0, 28, 3, 2) ∷ (0, 29, 3, 2) ∷ (0, 30, 3, 2) ∷ (0, 31, 3, 2) ∷ (0, 32, 3, 2)
+    ∷ (0, 33, 3, 2) ∷ (0, 34, 3, 2) ∷ (0, 35, 3, 2) ∷ (0, 36, 3, 2) ∷ (0, 37, 3, 2) ∷ (0, 38, 3, 2)
+    ∷ (0, 39, 3, 2) ∷ (0, 40, 3, 2) ∷ (0, 41, 3, 2) ∷ (0, 42, 3, 2) ∷ (0, 43, 3, 2) ∷ (0, 44, 3, 2)
+    ∷ (0, 45, 3, 2) ∷ (0, 46, 3, 2) ∷ (0, 47, 3, 2) ∷ (0, 48, 3, 2) ∷ (0, 49, 3, 2) ∷ (0, 50, 3, 2)
+    ∷ (0, 51, 3, 2) ∷ (0, 52, 3, 2) ∷ (0, 53, 3, 2) ∷ (0, 54, 3, 2) ∷ (0, 55, 3, 2) ∷ (0, 56, 3, 2)
+    ∷ (0, 57, 3, 2) ∷ (0, 58, 3, 2) ∷ (0, 59, 3, 2) ∷ (0, 60, 3, 2) ∷ (0, 61, 3, 2) ∷ (0, 62, 3, 2)
+    ∷ (0, 63, 3, 2) ∷ (0, 64, 3, 2) ∷ (0, 65, 3, 2) ∷ (0, 66, 3, 2) ∷ (0, 67, 3, 2) ∷ (0, 68, 3, 2)
+    ∷ (0, 69, 3, 2) ∷ (0, 70, 3, 2) ∷ (0, 71, 3, 2) ∷ (0, 72, 3, 2) ∷ (0, 73, 3, 2) ∷ (0, 74, 3, 2)
+    ∷ (0, 75, 3, 2) ∷ (0, 76, 3, 2) ∷ (0, 77, 3, 2) ∷ (0, 78, 3, 2) ∷ (0, 79, 3, 2) ∷ (0, 80, 3, 2)
+    ∷ (0, 81, 3, 2) ∷ (0, 82, 3, 2) ∷ (0, 83, 3, 2) ∷ (0, 84, 3, 2) ∷ (0, 85, 3, 2) ∷ (0, 86, 3, 2)
+    ∷ (0, 87, 3, 2) ∷ (0, 88, 3, 2) ∷ (0, 89, 3, 2) ∷ (0, 90, 3, 2) ∷ (0, 91, 3, 2) ∷ (0, 92, 3, 2)
+    ∷ (0, 93, 3, 2) ∷ (0, 94, 3, 2) ∷ (0, 95, 3, 2) ∷ (0, 96, 3, 2) ∷ (0, 97, 3, 2) ∷ (0, 98, 3, 2)
+    ∷ (0, 99, 3, 2) ∷ (0, 100, 3, 2) ∷ (0, 101, 3, 2) ∷ (0, 102, 3, 2) ∷ (0, 103, 3, 2) ∷ (0, 104, 3, 2)
+    ∷ (0, 105, 3, 2) ∷ (0, 106, 3, 2) ∷ (0, 107, 3, 2) ∷ (0, 108, 3, 2) ∷ (0, 109, 3, 2) ∷ (0, 110, 3, 2)
+    ∷ (0, 111, 3, 2) ∷ (0, 112, 3, 2) ∷ (0, 113, 3, 2) ∷ (0, 114, 3, 2) ∷ (0, 115, 3, 2) ∷ (0, 116, 3, 2)
+    ∷ (0, 117, 3, 2) ∷ (0, 118, 3, 2) ∷ (0, 119, 3, 2) ∷ (0, 120, 3, 2) ∷ (0, 121, 3, 2) ∷ (0, 122, 3, 2)
+    ∷ (0, 123, 3, 2) ∷ (0, 124, 3, 2) ∷ (0, 125, 3, 2) ∷ (0, 126, 3, 2) ∷ (0, 127, 3, 2) ∷ (0, 1, 4, 0)
+    ∷ (0, 308, 7, 27) ∷ (0, 0, 4, 0) ∷ (0, 0, 5, 1) ∷ (0, 306, 31, 17) ∷ (0, 307, 3, 0) ∷ (1, 307, 4, 22)
+    ∷ (1, 308, 8, 23) ∷ (1, 306, 32, 20) ∷ []
+
+pub makes : whole_fine_run image 2 processors ≡ record { steps = steps; events = events; is_lawful = true; is_complete = true; dump = without_priorities dump }
+unfolding blank
+makes = refl
+
+-- before each step and after the last one the relation holds
+pub is_related : related_steps image (record { cpus = 2; threads = 0 ∷ 1 ∷ []; rows = 0 ∷ 1 ∷ 2 ∷ 3 ∷ []; domains = 0 ∷ [] }) processors choices ≡ 483
+unfolding blank
+is_related = refl

@@ -1,0 +1,168 @@
+-- A timer runs out, and of two threads that wait for it the first one is woken.
+use Rattle.std.specs.Prelude.{◌≡◌, ℕ, true, false, List, [], ◌∷◌, Some, None, pos, codes, refl}
+use Rattle.um_base.specs.declared.names.Kind.TheVariants as Kind
+use Rattle.um_base.specs.declared.names.Mode.TheVariants as Mode
+use Rattle.um_base.specs.declared.names.Mpu.TheVariants as Mpu
+use Rattle.um_base.specs.declared.names.Policy.TheVariants as Policy
+use Rattle.um_base.specs.declared.names.Reply.TheVariants as Reply
+use Rattle.um_base.specs.declared.names.Term.TheVariants as Term
+use Rattle.um_base.specs.declared.names.Want.TheVariants as Want
+use Rattle.um_base.specs.declared.act.Act.TheVariants as Act
+use Rattle.um_base.specs.declared.act.Answer.TheVariants as Answer
+use Rattle.um_base.specs.declared.act.Leftover.TheVariants as Leftover
+use Rattle.um_base.specs.declared.image.Setup.TheVariants as Setup
+use Rattle.um_base.specs.declared.instr.Instr.TheVariants as Instr
+use Rattle.um_base.specs.declared.act.Event.{Event}
+use Rattle.um_base.specs.declared.image.Image.{Image}
+use Rattle.um_base.specs.declared.image.Script.{Script}
+use Rattle.um_worked_runs.specs.Fine.Left.{without_priorities}
+use Rattle.um_worked_runs.specs.Fine.Brief.{Brief}
+use Rattle.um_worked_runs.specs.Fine.Whole.{whole_fine_run}
+use Rattle.um_worked_runs.specs.Fine.Related.{related_steps}
+use Rattle.um_machine.specs.Run.{blank}
+use Rattle.um_worked_runs.specs.Evaluate.{Choice, skips, begins, exits, ticks, expires, goes}
+use Rattle.um_worked_runs.specs.Dump.{Dump, started, ended, waits, initialised, uninitialised, nothing, timer}
+use Rattle.um_worked_runs.specs.Words.{at, thread, row, range, by, on, choose}
+use Rattle.um_worked_runs.specs.Whole.{whole_run}
+
+abbrev pub script_0 : Script
+script_0 =
+    record {
+      name = codes "ca";
+      lines = Instr.TimerStart (Term.Num 0x40000100) (Term.Num 3)
+          ∷ Instr.TimerSync (Term.Num 0x40000100) 0 ∷ [];
+    }
+
+abbrev pub script_1 : Script
+script_1 =
+    record {
+      name = codes "cb";
+      lines = Instr.Set 0 (Term.Num 1)
+          ∷ Instr.TimerSync (Term.Num 0x40000100) 0 ∷ [];
+    }
+
+abbrev pub image : Image
+image =
+    record {
+      mpu = Mpu.V7;
+      regions = 8;
+      policy = Policy.Abort;
+      rodata = None;
+      rodata_bytes = [];
+      pools = [];
+      partitions = [];
+      domains = record { name = codes "d"; parts = Some [] } ∷ [];
+      objects = record { name = codes "a"; kind = Kind.Thread; addr = at 0x40000000; public = true; setup = Setup.Thread (thread 0) }
+          ∷ record { name = codes "sa"; kind = Kind.ThreadStack; addr = at 0x20080000; public = false; setup = Setup.ThreadStack (range 0x20080000 64) 64 }
+          ∷ record { name = codes "b"; kind = Kind.Thread; addr = at 0x40000080; public = true; setup = Setup.Thread (thread 1) }
+          ∷ record { name = codes "sb"; kind = Kind.ThreadStack; addr = at 0x20080040; public = false; setup = Setup.ThreadStack (range 0x20080040 64) 64 }
+          ∷ record { name = codes "tm"; kind = Kind.Timer; addr = at 0x40000100; public = true; setup = Setup.Timer } ∷ [];
+      boots = record { thread = row 0; stack = row 1; script = 0; mode = Mode.User; priority = pos 5; domain = 0; pool = None; grants = [] }
+          ∷ record { thread = row 2; stack = row 3; script = 1; mode = Mode.User; priority = pos 2; domain = 0; pool = None; grants = [] } ∷ [];
+      scripts = script_0
+          ∷ script_1 ∷ [];
+      futexes = [];
+    }
+
+-- which thread makes each step, and which one
+abbrev pub choices : List Choice
+choices =
+    choose 0 0 begins ∷ choose 1 0 begins ∷ on 0 ∷ choose 1 0 begins ∷ on 0 ∷ on 0 ∷ on 1 ∷ on 1 ∷ on 0
+    ∷ choose 0 0 begins ∷ on 0 ∷ on 0 ∷ choose 1 0 ticks ∷ choose 1 4 expires ∷ on 1 ∷ on 1 ∷ choose 1 0 exits
+    ∷ choose 1 2 goes ∷ choose 1 0 skips ∷ on 1 ∷ []
+
+-- what the trace shows
+abbrev pub events : List Event
+events =
+    by 0 (Act.Begin 0 1)
+    ∷ by 1 (Act.Begin 1 1)
+    ∷ by 0 (Act.Check (at 0x40000100) (Some Kind.Timer) Want.Init None)
+    ∷ by 1 (Act.Begin 1 2)
+    ∷ by 0 (Act.Arm 3)
+    ∷ by 0 (Act.Work (at 0x40000100) (Answer.Now Reply.Void) [])
+    ∷ by 1 (Act.Check (at 0x40000100) (Some Kind.Timer) Want.Init None)
+    ∷ by 1 (Act.Work (at 0x40000100) Answer.Wait [])
+    ∷ by 0 (Act.Answered Reply.Void)
+    ∷ by 0 (Act.Begin 0 2)
+    ∷ by 0 (Act.Check (at 0x40000100) (Some Kind.Timer) Want.Init None)
+    ∷ by 0 (Act.Work (at 0x40000100) Answer.Wait [])
+    ∷ by 1 (Act.Tick 3)
+    ∷ by 1 (Act.Expire (at 0x40000100) ((thread 1, Reply.Num 1) ∷ []))
+    ∷ by 1 Act.Resume
+    ∷ by 1 (Act.Answered (Reply.Num 1))
+    ∷ by 1 Act.Exit
+    ∷ by 1 (Act.DropPair (thread 1) (at 0x40000080) Leftover.Kept)
+    ∷ by 1 (Act.ClearInit (at 0x20080040))
+    ∷ by 1 (Act.ClearInit (at 0x40000080)) ∷ []
+
+abbrev pub dump : Dump
+dump =
+    record {
+      threads = started 0 (waits 4) Mode.User (pos 5) 0
+          ∷ started 1 ended Mode.User (pos 2) 0 ∷ [];
+      objects = record { row = 0; kind = Some Kind.Thread; stage = initialised; public = true; holders = 0 ∷ []; content = nothing }
+          ∷ record { row = 1; kind = Some Kind.ThreadStack; stage = initialised; public = false; holders = []; content = nothing }
+          ∷ record { row = 2; kind = Some Kind.Thread; stage = uninitialised; public = true; holders = []; content = nothing }
+          ∷ record { row = 3; kind = Some Kind.ThreadStack; stage = uninitialised; public = false; holders = []; content = nothing }
+          ∷ record { row = 4; kind = Some Kind.Timer; stage = initialised; public = true; holders = []; content = timer 0 false } ∷ [];
+      domains = Some [] ∷ [];
+      pools = [];
+      memory = [];
+    }
+
+pub runs : whole_run image choices ≡ record { events = events; is_lawful = true; is_complete = true; dump = dump }
+unfolding blank
+runs = refl
+
+-- which processor makes each step
+abbrev pub processors : List ℕ
+processors =
+    0 ∷ 0 ∷ 1 ∷ 1 ∷ 0 ∷ 1 ∷ 0 ∷ 1 ∷ 1 ∷ 0 ∷ 0 ∷ 1 ∷ 0 ∷ 1 ∷ 1 ∷ 1 ∷ 1 ∷ 0 ∷ 0 ∷ 0 ∷ 0 ∷ 0 ∷ 0 ∷ 0 ∷ 0 ∷ 0
+    ∷ 0 ∷ 1 ∷ 1 ∷ 1 ∷ 1 ∷ 0 ∷ 1 ∷ 0 ∷ 0 ∷ 0 ∷ 0 ∷ 0 ∷ 0 ∷ 0 ∷ 0 ∷ 0 ∷ 0 ∷ 0 ∷ 0 ∷ 0 ∷ 0 ∷ 0 ∷ 0 ∷ 0 ∷ 0 ∷ 0
+    ∷ 0 ∷ 0 ∷ 0 ∷ 0 ∷ 0 ∷ 0 ∷ 0 ∷ 0 ∷ 0 ∷ 0 ∷ 0 ∷ 0 ∷ 0 ∷ 0 ∷ 0 ∷ 0 ∷ 0 ∷ 0 ∷ 0 ∷ 0 ∷ 0 ∷ 0 ∷ 0 ∷ 0 ∷ 0 ∷ 0
+    ∷ 0 ∷ 0 ∷ 0 ∷ 0 ∷ 0 ∷ 0 ∷ 0 ∷ 0 ∷ 0 ∷ 0 ∷ 0 ∷ 0 ∷ 0 ∷ 0 ∷ 0 ∷ 0 ∷ 0 ∷ 0 ∷ 0 ∷ 0 ∷ 0 ∷ 0 ∷ 0 ∷ 0 ∷ 0 ∷ 0
+    ∷ 0 ∷ 0 ∷ 0 ∷ 0 ∷ 0 ∷ 0 ∷ 0 ∷ 0 ∷ 0 ∷ 0 ∷ 0 ∷ 0 ∷ 0 ∷ 0 ∷ 0 ∷ 0 ∷ 0 ∷ 0 ∷ 0 ∷ 0 ∷ 0 ∷ 0 ∷ 0 ∷ 0 ∷ 0 ∷ 0
+    ∷ 0 ∷ 0 ∷ 0 ∷ 0 ∷ 0 ∷ 0 ∷ 0 ∷ 0 ∷ 0 ∷ 0 ∷ 0 ∷ 0 ∷ 0 ∷ 0 ∷ 0 ∷ 0 ∷ 0 ∷ 0 ∷ 0 ∷ 0 ∷ 0 ∷ 0 ∷ 0 ∷ 0 ∷ 0 ∷ 0
+    ∷ 0 ∷ 0 ∷ 0 ∷ 0 ∷ 0 ∷ 0 ∷ 0 ∷ 0 ∷ 0 ∷ 0 ∷ 0 ∷ 0 ∷ 0 ∷ 0 ∷ 0 ∷ []
+
+-- the steps: processor, site, the step's number there, and which unseen step it is
+abbrev pub steps : List Brief
+steps =
+    (0, 306, 1, 15) ∷ (0, 128, 1, 0) ∷ (1, 306, 2, 15) ∷ (1, 129, 1, 0) ∷ (0, 4, 1, 0) ∷ (1, 306, 3, 16)
+    ∷ (0, 306, 4, 19) ∷ (1, 306, 5, 15) ∷ (1, 129, 2, 0) ∷ (0, 307, 1, 0) ∷ (0, 172, 1, 0) ∷ (1, 4, 2, 0)
+    ∷ (0, 307, 2, 21) ∷ (1, 129, 3, 24) ∷ (1, 172, 2, 0) ∷ (1, 129, 4, 18) ∷ (1, 306, 6, 16) ∷ (0, 128, 2, 0)
+    ∷ (0, 4, 3, 1) ∷ (0, 306, 7, 16) ∷ (0, 306, 8, 15) ∷ (0, 128, 3, 0) ∷ (0, 4, 4, 0) ∷ (0, 128, 4, 24)
+    ∷ (0, 172, 3, 0) ∷ (0, 128, 5, 18) ∷ (0, 306, 9, 16) ∷ (1, 307, 3, 0) ∷ (1, 307, 4, 22) ∷ (1, 172, 4, 0)
+    ∷ (1, 306, 10, 14) ∷ (0, 306, 11, 0) ∷ (1, 306, 12, 20) ∷ (0, 129, 5, 0) ∷ (0, 4, 5, 1) ∷ (0, 306, 13, 16)
+    ∷ (0, 306, 14, 15) ∷ (0, 129, 6, 0) ∷ (0, 0, 1, 2) ∷ (0, 1, 1, 2) ∷ (0, 2, 1, 0) ∷ (0, 3, 1, 2)
+    ∷ (0, 4, 6, 2) ∷ (0, 5, 1, 2) ∷ (0, 6, 1, 2) ∷ (0, 7, 1, 2) ∷ (0, 8, 1, 2) ∷ (0, 9, 1, 2) ∷ (0, 10, 1, 2)
+    ∷ (0, 11, 1, 2) ∷ (0, 12, 1, 2) ∷ (0, 13, 1, 2) ∷ (0, 14, 1, 2) ∷ (0, 15, 1, 2) ∷ (0, 16, 1, 2)
+    ∷ (0, 17, 1, 2) ∷ (0, 18, 1, 2) ∷ (0, 19, 1, 2) ∷ (0, 20, 1, 2) ∷ (0, 21, 1, 2) ∷ (0, 22, 1, 2)
+    ∷ (0, 23, 1, 2) ∷ (0, 24, 1, 2) ∷ (0, 25, 1, 2) ∷ (0, 26, 1, 2) ∷ (0, 27, 1, 2) ∷ (0, 28, 1, 2)
+    ∷ (0, 29, 1, 2) ∷ (0, 30, 1, 2) ∷ (0, 31, 1, 2) ∷ (0, 32, 1, 2) ∷ (0, 33, 1, 2) ∷ (0, 34, 1, 2)
+    ∷ (0, 35, 1, 2) ∷ (0, 36, 1, 2) ∷ (0, 37, 1, 2) ∷ (0, 38, 1, 2) ∷ (0, 39, 1, 2) ∷ (0, 40, 1, 2)
+    ∷ (0, 41, 1, 2) ∷ (0, 42, 1, 2) ∷ (0, 43, 1, 2) ∷ (0, 44, 1, 2) ∷ (0, 45, 1, 2) ∷ (0, 46, 1, 2)
+    ∷ (0, 47, 1, 2) ∷ (0, 48, 1, 2) ∷ (0, 49, 1, 2) ∷ (0, 50, 1, 2) ∷ (0, 51, 1, 2) ∷ (0, 52, 1, 2)
+    ∷ (0, 53, 1, 2) ∷ (0, 54, 1, 2) ∷ (0, 55, 1, 2) ∷ (0, 56, 1, 2) ∷ (0, 57, 1, 2) ∷ (0, 58, 1, 2)
+    ∷ (0, 59, 1, 2) ∷ (0, 60, 1, 2) ∷ (0, 61, 1, 2) ∷ (0, 62, 1, 2) ∷ (0, 63, 1, 2) ∷ (0, 64, 1, 2)
+    ∷ (0, 65, 1, 2) ∷ (0, 66, 1, 2) ∷ (0, 67, 1, 2) ∷ (0, 68, 1, 2) ∷ (0, 69, 1, 2) ∷ (0, 70, 1, 2)
+    ∷ (0, 71, 1, 2) ∷ (0, 72, 1, 2) ∷ (0, 73, 1, 2) ∷ (0, 74, 1, 2) ∷ (0, 75, 1, 2) ∷ (0, 76, 1, 2)
+    ∷ (0, 77, 1, 2) ∷ (0, 78, 1, 2) ∷ (0, 79, 1, 2) ∷ (0, 80, 1, 2) ∷ (0, 81, 1, 2) ∷ (0, 82, 1, 2)
+    ∷ (0, 83, 1, 2) ∷ (0, 84, 1, 2) ∷ (0, 85, 1, 2) ∷ (0, 86, 1, 2) ∷ (0, 87, 1, 2) ∷ (0, 88, 1, 2)
+    ∷ (0, 89, 1, 2) ∷ (0, 90, 1, 2) ∷ (0, 91, 1, 2) ∷ (0, 92, 1, 2) ∷ (0, 93, 1, 2) ∷ (0, 94, 1, 2)
+    ∷ (0, 95, 1, 2) ∷ (0, 96, 1, 2) ∷ (0, 97, 1, 2) ∷ (0, 98, 1, 2) ∷ (0, 99, 1, 2) ∷ (0, 100, 1, 2)
+    ∷ (0, 101, 1, 2) ∷ (0, 102, 1, 2) ∷ (0, 103, 1, 2) ∷ (0, 104, 1, 2) ∷ (0, 105, 1, 2) ∷ (0, 106, 1, 2)
+    ∷ (0, 107, 1, 2) ∷ (0, 108, 1, 2) ∷ (0, 109, 1, 2) ∷ (0, 110, 1, 2) ∷ (0, 111, 1, 2) ∷ (0, 112, 1, 2)
+    ∷ (0, 113, 1, 2) ∷ (0, 114, 1, 2) ∷ (0, 115, 1, 2) ∷ (0, 116, 1, 2) ∷ (0, 117, 1, 2) ∷ (0, 118, 1, 2)
+    ∷ (0, 119, 1, 2) ∷ (0, 120, 1, 2) ∷ (0, 121, 1, 2) ∷ (0, 122, 1, 2) ∷ (0, 123, 1, 2) ∷ (0, 124, 1, 2)
+    ∷ (0, 125, 1, 2) ∷ (0, 126, 1, 2) ∷ (0, 127, 1, 2) ∷ (0, 3, 2, 0) ∷ (0, 308, 1, 27) ∷ (0, 2, 2, 0)
+    ∷ (0, 2, 3, 1) ∷ (0, 306, 15, 17) ∷ []
+
+pub makes : whole_fine_run image 2 processors ≡ record { steps = steps; events = events; is_lawful = true; is_complete = true; dump = without_priorities dump }
+unfolding blank
+makes = refl
+
+-- before each step and after the last one the relation holds
+pub is_related : related_steps image (record { cpus = 2; threads = 0 ∷ 1 ∷ []; rows = 0 ∷ 1 ∷ 2 ∷ 3 ∷ 4 ∷ []; domains = 0 ∷ [] }) processors choices ≡ 172
+unfolding blank
+is_related = refl
