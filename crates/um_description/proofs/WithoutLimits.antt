@@ -135,9 +135,9 @@ unfolding contents_limits
 packed_right i vs h =
     let t = none_three _ _ _ h in
     let some : nat_lt (length vs) 1 ≡ false = (neither_told (int_lt (pos (length vs)) (pos 1)) (int_lt (pos 32) (pos (length vs))) _ _ t.0).0 in
-    let low = some_end i vs some t.1 in
-    let high : size_of vs ≤ AREA_ENTRY = no_longer Key.Size AREA_ENTRY _ (size_of vs) t.2 in
-    let ends = bytes_end i 0 0 [] vs t.1 (omega arith) in
+    let low = some_end i vs some t.2 in
+    let high : size_of vs ≤ AREA_ENTRY = no_longer Key.Size AREA_ENTRY _ (size_of vs) t.1 in
+    let ends = bytes_end i 0 0 [] vs t.2 (omega arith) in
     (omega (arith, low), high, omega (arith, high, ends))
 
 few_in : (n most : ℕ) → most ≤ AREA_ENTRY → n ≤ most → n ≤ clamped (pos most)
