@@ -1,10 +1,9 @@
 -- A list of events has all steps of a state.
-use Rattle.std.proofs.Common.{◌≡◌, inl, inr, ℕ, zero, suc, ◌+◌, ◌<◌, ◌≤◌, true, false, List, [], ◌∷◌, ◌++◌, length, drop, refl, sym, ap, ◌∙◌, subst, arith, Option, Some, None, Result, Ok, Err, slice_get, slice_index_or, Bool}
-use Rattle.std.specs.Prelude.{◌⊎◌, ◌&&◌, ◌||◌, ◌==◌, not, nat_le, IfOk, IsTrue, All, nat_lt, is_some}
+use Rattle.std.proofs.Common.{◌≡◌, inl, inr, ℕ, zero, suc, ◌+◌, ◌<◌, ◌≤◌, true, false, List, [], ◌∷◌, ◌++◌, length, drop, refl, sym, ◌∙◌, subst, arith, Option, Some, None, Result, Ok, Err, slice_get, slice_index_or, Bool}
+use Rattle.std.specs.Prelude.{◌&&◌, ◌||◌, ◌==◌, not, IfOk, IsTrue, All, nat_lt, is_some}
 use Rattle.std.proofs.Math.ListN.{get_or-eq_default}
 use Rattle.std.proofs.lemmas.Bool.{and_parts, le-ltb}
-use Rattle.std.proofs.lemmas.List.Elements.{All-push, All-nil}
-use Rattle.std.proofs.lemmas.Option.{slice_get_within}
+use Rattle.std.proofs.lemmas.List.Elements.{All-push}
 use Rattle.um_base.specs.declared.act.Act.{Act}
 use Rattle.um_base.specs.declared.act.Event.{Event}
 use Rattle.um_base.specs.declared.limits.TheConstants.{THREADS, ROWS, FUTEX_CELL, JOIN_CELL}
@@ -16,8 +15,8 @@ use Rattle.um_machine.specs.declared.pending.Pending.{Pending}
 use Rattle.um_machine.specs.Joins.{is_ending}
 use Rattle.um_machine.specs.Objects.{is_gone}
 use Rattle.um_machine.specs.Order.{Steps, to_thread}
-use Rattle.um_machine.specs.Run.{MayChoose, Offers, Step, begins, exits, goes, leaves, skips_drops, skips_inherit, stops, tends, is_free_for, none_due, waits_at, stands_in, may_go, must_stop}
-use Rattle.um_machine.specs.State.{State, instruction_at, is_living, is_waiting, nobody, waiters_in, object_at, pair_at, thread_at, vacant, is_started}
+use Rattle.um_machine.specs.Run.{MayChoose, begins, exits, goes, leaves, skips_drops, skips_inherit, stops, tends, none_due, waits_at, may_go, must_stop}
+use Rattle.um_machine.specs.State.{State, instruction_at, is_living, is_waiting, object_at, pair_at, thread_at, vacant, is_started}
 use Rattle.um_machine.specs.Table.{act_of}
 use Rattle.um_machine.specs.Time.{has_come, has_run_out}
 use Rattle.um_base.specs.Places.{own_row}

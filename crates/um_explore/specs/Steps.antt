@@ -1,12 +1,11 @@
 -- The steps that a state offers, as a list of their events.
-use Rattle.std.specs.Prelude.{◌≡◌, ℕ, ◌<◌, IsTrue, List, [], All, drop, Some, slice_get}
+use Rattle.std.specs.Prelude.{◌≡◌, ℕ, ◌<◌, List, All, Some, slice_get}
 use Rattle.um_base.specs.declared.act.Event.{Event}
 use Rattle.um_base.specs.declared.names.ThreadIx.{ThreadIx}
 use Rattle.um_machine.specs.declared.pending.Pending.{Pending}
-use Rattle.um_machine.specs.Joins.{is_ending}
 use Rattle.um_machine.specs.Order.{Steps, to_thread}
-use Rattle.um_machine.specs.Run.{MayChoose, Offers, Step, is_tending}
-use Rattle.um_machine.specs.State.{State, is_started, thread_at}
+use Rattle.um_machine.specs.Run.{MayChoose, Offers, Step}
+use Rattle.um_machine.specs.State.{State}
 use Rattle.um_machine.specs.Table.{act_of}
 use Rattle.um_matrix.specs.Offered.{IsStep, event_of}
 

@@ -1,6 +1,6 @@
 use Rattle.std.proofs.Common.{sym}
 use Rattle.um_matrix.specs.Offered.{first_step}
-use Rattle.um_explore.proofs.StepLemmas.{first-is, first-offer, first-rests, ok-so, only-has}
+use Rattle.um_explore.proofs.StepLemmas.{first-is, first-offer, ok-so, only-has}
 use Rattle.um_explore.proofs.steps.add_first.Goals as goal
 
 pub add_rows-requires-clause-offered : goal.add_rows-requires-clause-offered

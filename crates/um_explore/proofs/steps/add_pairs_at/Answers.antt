@@ -1,4 +1,4 @@
-use Rattle.std.proofs.Common.{ℕ, ap, arith, length, List, Bool, refl, subst, sym, ◌∙◌}
+use Rattle.std.proofs.Common.{ℕ, refl, subst, sym}
 use Rattle.um_base.specs.declared.act.Act.{Act}
 use Rattle.um_machine.specs.declared.pending.Pending.TheVariants as Pending
 use Rattle.um_machine.specs.Order.{to_thread}
@@ -6,7 +6,7 @@ use Rattle.um_machine.specs.Table.{act_of}
 use Rattle.um_matrix.specs.Offered.{IsStep, event_of}
 use Rattle.um_matrix.proofs.OfferLemmas.{below-next}
 use Rattle.um_explore.specs.Steps.{Has, HasPair}
-use Rattle.um_explore.proofs.StepLemmas.{further, pair-past, row-step, tending-offer}
+use Rattle.um_explore.proofs.StepLemmas.{further, row-step, tending-offer}
 use Rattle.um_explore.proofs.steps.add_pairs_at.Goals as goal
 use Rattle.um_explore.proofs.steps.add_pairs_at.Goals.{else-may_choose, then-may_choose+in_ok-add}
 

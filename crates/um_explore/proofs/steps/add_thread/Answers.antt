@@ -1,4 +1,3 @@
-use Rattle.std.proofs.Common.{Some, ◌≡◌}
 use Rattle.um_machine.specs.declared.pending.Pending.TheVariants as Pending
 use Rattle.um_explore.proofs.StepLemmas.{both-so, further, ok-so, step-kept, thread-has}
 use Rattle.um_explore.proofs.steps.add_thread.Goals as goal
