@@ -1,3 +1,5 @@
--- StepLemmas: a list of events has all steps of a state. NextLemmas: the lines of a text are followed.
+-- StepLemmas: a list of events has all steps of a state. NextLemmas: the lines of a text are followed. MetLemmas: the states that a search met. FormLemmas: the words of lines.
 pub mod StepLemmas
 pub mod NextLemmas
+pub mod MetLemmas
+pub mod FormLemmas
