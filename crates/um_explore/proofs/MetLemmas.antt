@@ -1,6 +1,7 @@
 -- The states that a search met.
-use Rattle.std.proofs.Common.{◌≡◌, ℕ, zero, suc, ◌+◌, ◌≤◌, List, [], ◌∷◌, ◌++◌, take, drop, reverse, refl, sym, ap, ◌∙◌, subst, arith, Some, slice_get}
+use Rattle.std.proofs.Common.{◌≡◌, ◌⊎◌, inl, inr, ℕ, zero, suc, ◌+◌, ◌<◌, ◌≤◌, Bool, List, [], ◌∷◌, ◌++◌, length, take, drop, reverse, refl, sym, ap, ◌∙◌, subst, arith, length-append, Some, slice_get}
 use Rattle.std.proofs.lemmas.List.{reverse-append}
+use Rattle.std.proofs.lemmas.Option.{slice_get_within}
 use Rattle.um_base.specs.declared.act.Event.{Event}
 use Rattle.um_base.specs.declared.image.Image.{Image}
 use Rattle.um_machine.specs.Run.{IsRun, Runs, Step, opening}
@@ -11,8 +12,9 @@ use Rattle.um_texts.proofs.NameLemmas.{are_named}
 use Rattle.um_audit.proofs.LawLemmas.{led-one}
 use Rattle.um_audit.proofs.WholeLemmas.{led-run}
 use Rattle.um_audit.proofs.WholeLemmas as Whole
+use Rattle.um_matrix.proofs.OfferLemmas.{le-or-lt}
 use Rattle.um_matrix.specs.Offered.{IsRefusedAt}
-use Rattle.um_explore.specs.Met.{Leads, PathTo, goes, opens}
+use Rattle.um_explore.specs.Met.{Adds, AreDone, AreMet, Grows, IsDone, IsMet, IsTree, Leads, LeadsOn, PathTo, goes, opens}
 use Rattle.um_explore.specs.declared.met.Link.{Link}
 
 -- events lead to one state
@@ -67,3 +69,93 @@ never-refused image is events s s2 k run refused =
 
 pub reverse-push : {A : Type 0} (xs : List A) (x : A) → reverse (xs ++ x ∷ []) ≡ x ∷ reverse xs
 reverse-push xs x = reverse-append xs (x ∷ [])
+
+-- One state more.
+
+get-more : {A : Type 0} (xs ys : List A) (k : ℕ) (y : A) → slice_get xs k ≡ Some y → slice_get (xs ++ ys) k ≡ Some y
+get-more [] ys k y h = cc
+get-more (x ∷ xs) ys zero y h = h
+get-more (x ∷ xs) ys (suc k) y h = get-more xs ys k y h
+
+get-front : {A : Type 0} (xs : List A) (y : A) → slice_get (xs ++ y ∷ []) (length xs) ≡ Some y
+get-front [] y = refl
+get-front (x ∷ xs) y = get-front xs y
+
+get-less : {A : Type 0} (xs ys : List A) (k : ℕ) (y : A) → k < length xs → slice_get (xs ++ ys) k ≡ Some y → slice_get xs k ≡ Some y
+get-less [] ys k y less h = absurd (omega arith)
+get-less (x ∷ xs) ys zero y less h = h
+get-less (x ∷ xs) ys (suc k) y less h = get-less xs ys k y (omega arith) h
+
+path-kept : (links more : List Link) (k : ℕ) (events : List Event) → PathTo links k events → PathTo (links ++ more) k events
+path-kept links more k events (opens here none) = opens here none
+path-kept links more k events (goes {n} {link} {before} is at up path last) = goes is (get-more links more n link at) up (path-kept links more link.parent before path) last
+
+pub leads-kept : (image : Image) (links more : List Link) (k : ℕ) (s : State) → Leads image links k s → Leads image (links ++ more) k s
+leads-kept image links more k s (events, path, run) = (events, path-kept links more k events path, run)
+
+pub grows-none : (image : Image) (links : List Link) → Grows image links links
+grows-none image links = record { more = omega arith; keeps = λ k s h. h }
+
+pub grows-more : (image : Image) (a b c : List Link) → Grows image a b → Grows image b c → Grows image a c
+grows-more image a b c one two =
+    let first = one.more in
+    let second = two.more in record { more = omega (arith, first, second); keeps = λ k s h. two.keeps k s (one.keeps k s h) }
+
+grows-by : (image : Image) (links : List Link) (link : Link) → Grows image links (links ++ link ∷ [])
+grows-by image links link = record { more = grind (arith, length-append); keeps = λ k s h. leads-kept image links (link ∷ []) k s h }
+
+pub grows-add : (image : Image) (before links : List Link) (parent : ℕ) (event : Event) → Adds before parent event links → Grows image before links
+grows-add image before links parent event (link, from, by, is) = subst (λ (ls : List Link). Grows image before ls) (sym is) (grows-by image before link)
+
+pub met-kept : (image : Image) (before links : List Link) (s : State) → Grows image before links → IsMet image before s → IsMet image links s
+met-kept image before links s grows (k, within, leads) =
+    let more = grows.more in (k, omega (arith, within, more), grows.keeps k s leads)
+
+-- the state that the new link leads to
+new-leads : (image : Image) (before : List Link) (link : Link) (s s2 : State) → link.parent ≤ length before → Leads image before link.parent s → Step s link.event s2 → Leads image (before ++ link ∷ []) (length before + 1) s2
+new-leads image before link s s2 up (events, path, run) step =
+    (events ++ link.event ∷ [], goes refl (get-front before link) up (path-kept before (link ∷ []) link.parent events path) refl, runs-push (opening image) events s link.event s2 run step)
+
+three-ways : (k n : ℕ) → k ≤ n + 1 → (k ≤ n) ⊎ (k ≡ n + 1)
+three-ways k n h = elim (le-or-lt k (n + 1)) [ inl less ↦ inl (omega (arith, less)) | inr past ↦ inr (omega (arith, past, h)) ]
+
+tree-add : (before : List Link) (link : Link) → IsTree before → link.parent ≤ length before → IsTree (before ++ link ∷ [])
+tree-add before link tree up n other at =
+    elim (le-or-lt n (length before)) [
+      inl less ↦ tree n other (get-less before (link ∷ []) n other less at)
+    | inr past ↦
+        (let within = slice_get_within (before ++ link ∷ []) n other at in
+        let here : n ≡ length before = grind (arith, length-append, within, past) in
+        let same : link ≡ other = (let both : Some link ≡ Some other = sym (get-front before link) ∙ ap (λ (i : ℕ). slice_get (before ++ link ∷ []) i) (sym here) ∙ at in cc) in
+        subst (λ (l : Link). l.parent ≤ n) same (subst (λ (i : ℕ). link.parent ≤ i) (sym here) up))
+    ]
+
+are-by : (image : Image) (before : List Link) (link : Link) (s s2 : State) → AreMet image before → link.parent ≤ length before → Leads image before link.parent s → Step s link.event s2 → AreMet image (before ++ link ∷ [])
+are-by image before link s s2 are up leads step = record {
+  described = are.described;
+  tree = tree-add before link are.tree up;
+  reached = λ k within.
+    elim (three-ways k (length before) (grind (arith, length-append, within))) as (λ _. (now : State) × Leads image (before ++ link ∷ []) k now) [
+      | inl old ↦ (let there = are.reached k old in (there.0, leads-kept image before (link ∷ []) k there.0 there.1))
+      | inr new ↦ (s2, subst (λ (i : ℕ). Leads image (before ++ link ∷ []) i s2) (sym new) (new-leads image before link s s2 up leads step))
+    ];
+}
+
+pub are-add : (image : Image) (before links : List Link) (parent : ℕ) (event : Event) (s s2 : State) → AreMet image before → Adds before parent event links → parent ≤ length before → Leads image before parent s → Step s event s2 → AreMet image links
+are-add image before links parent event s s2 are (link, from, by, is) up leads step =
+    subst (λ (ls : List Link). AreMet image ls) (sym is)
+    (are-by image before link s s2 are (subst (λ (p : ℕ). p ≤ length before) (sym from) up) (subst (λ (p : ℕ). Leads image before p s) (sym from) leads) (subst (λ (e : Event). Step s e s2) (sym by) step))
+
+pub met-add : (image : Image) (before links : List Link) (parent : ℕ) (event : Event) (s s2 : State) → Adds before parent event links → parent ≤ length before → Leads image before parent s → Step s event s2 → IsMet image links s2
+met-add image before links parent event s s2 (link, from, by, is) up leads step =
+    subst (λ (ls : List Link). IsMet image ls s2) (sym is)
+    (length before + 1, grind (arith, length-append),
+      new-leads image before link s s2 (subst (λ (p : ℕ). p ≤ length before) (sym from) up) (subst (λ (p : ℕ). Leads image before p s) (sym from) leads) (subst (λ (e : Event). Step s e s2) (sym by) step))
+
+-- one state to which an event leads was met, so each is
+pub leads-on : (image : Image) (before links : List Link) (k : ℕ) (event : Event) (s s2 : State) → AreMet image links → Grows image before links → Leads image before k s → Step s event s2 → IsMet image links s2 → LeadsOn image links k event
+leads-on image before links k event s s2 are grows leads step met a b there other =
+    let here = grows.keeps k s leads in
+    let same : s ≡ a = one-state image are.described links k s a here there in
+    let next = step-one image are.described there.0 a there.2 event s2 b (subst (λ (now : State). Step now event s2) same step) other in
+    subst (λ (now : State). IsMet image links now) next met

@@ -1,4 +1,4 @@
-use Rattle.std.proofs.Common.{List, arith, subst}
+use Rattle.std.proofs.Common.{List, subst}
 use Rattle.um_base.specs.declared.act.Event.{Event}
 use Rattle.um_machine.specs.Run.{IsRun}
 use Rattle.um_machine.specs.State.{State}
@@ -14,6 +14,9 @@ unreachable-requires c =
     let same = one-path c.args.links.now c.args.k there.1.0 events there.1.1 c.in_ok-events.ensures in
     let run = subst (λ (es : List Event). IsRun image es there.0) same there.1.2 in
     let refused = c.in-Err.ensures.refused in
-    never-refused image (record { lawful = c.requires.lawful; few = omega (arith, c.len-objects.ensures.few, c.len-objects.ensures.value) }) events there.0 c.judge.new.self c.in-Err.field-0 run
+    never-refused image c.requires.are.described events there.0 c.judge.new.self c.in-Err.field-0 run
     (subst (λ (s : State). IsRefusedAt s events c.in-Err.field-0 c.judge.new.self) c.in_ok-matrix.ensures
     (subst (λ (es : List Event). IsRefusedAt c.in_ok-matrix.matrix es c.in-Err.field-0 c.judge.new.self) c.deref.ensures.value refused))
+
+pub boot-requires : goal.boot-requires
+boot-requires c = record { lawful = c.requires.are.described.lawful }
