@@ -1,5 +1,7 @@
--- StepLemmas: a list of events has all steps of a state. NextLemmas: the lines of a text are followed. MetLemmas: the states that a search met. FormLemmas: the words of lines.
+-- StepLemmas: a list of events has all steps of a state. NextLemmas: the lines of a text are followed. MetLemmas: the states that a search met. FormLemmas: the words of lines. SearchLemmas: what a search
+-- through states shows of all runs.
 pub mod StepLemmas
 pub mod NextLemmas
 pub mod MetLemmas
 pub mod FormLemmas
+pub mod SearchLemmas

@@ -1,5 +1,5 @@
 -- The states that a search met.
-use Rattle.std.proofs.Common.{◌≡◌, ◌⊎◌, inl, inr, ℕ, zero, suc, ◌+◌, ◌<◌, ◌≤◌, Bool, List, [], ◌∷◌, ◌++◌, length, take, drop, reverse, refl, sym, ap, ◌∙◌, subst, arith, length-append, Some, slice_get}
+use Rattle.std.proofs.Common.{◌≡◌, ◌⊎◌, inl, inr, ℕ, zero, suc, ◌+◌, ◌<◌, ◌≤◌, List, [], ◌∷◌, ◌++◌, length, take, drop, reverse, refl, sym, ap, ◌∙◌, subst, arith, length-append, Some, slice_get}
 use Rattle.std.proofs.lemmas.List.{reverse-append}
 use Rattle.std.proofs.lemmas.Option.{slice_get_within}
 use Rattle.um_base.specs.declared.act.Event.{Event}
@@ -14,7 +14,7 @@ use Rattle.um_audit.proofs.WholeLemmas.{led-run}
 use Rattle.um_audit.proofs.WholeLemmas as Whole
 use Rattle.um_matrix.proofs.OfferLemmas.{le-or-lt}
 use Rattle.um_matrix.specs.Offered.{IsRefusedAt}
-use Rattle.um_explore.specs.Met.{Adds, AreDone, AreMet, Grows, IsDone, IsMet, IsTree, Leads, LeadsOn, PathTo, goes, opens}
+use Rattle.um_explore.specs.Met.{Adds, AreLayered, AreMet, Grows, IsKnown, IsMet, IsNear, IsTree, Leads, LeadsOn, PathTo, goes, opens}
 use Rattle.um_explore.specs.declared.met.Link.{Link}
 
 -- events lead to one state
@@ -94,22 +94,22 @@ pub leads-kept : (image : Image) (links more : List Link) (k : ℕ) (s : State) 
 leads-kept image links more k s (events, path, run) = (events, path-kept links more k events path, run)
 
 pub grows-none : (image : Image) (links : List Link) → Grows image links links
-grows-none image links = record { more = omega arith; keeps = λ k s h. h }
+grows-none image links = record { more = omega arith; paths = λ k es h. h }
 
 pub grows-more : (image : Image) (a b c : List Link) → Grows image a b → Grows image b c → Grows image a c
 grows-more image a b c one two =
     let first = one.more in
-    let second = two.more in record { more = omega (arith, first, second); keeps = λ k s h. two.keeps k s (one.keeps k s h) }
+    let second = two.more in record { more = omega (arith, first, second); paths = λ k es h. two.paths k es (one.paths k es h) }
 
 grows-by : (image : Image) (links : List Link) (link : Link) → Grows image links (links ++ link ∷ [])
-grows-by image links link = record { more = grind (arith, length-append); keeps = λ k s h. leads-kept image links (link ∷ []) k s h }
+grows-by image links link = record { more = grind (arith, length-append); paths = λ k es h. path-kept links (link ∷ []) k es h }
 
 pub grows-add : (image : Image) (before links : List Link) (parent : ℕ) (event : Event) → Adds before parent event links → Grows image before links
 grows-add image before links parent event (link, from, by, is) = subst (λ (ls : List Link). Grows image before ls) (sym is) (grows-by image before link)
 
-pub met-kept : (image : Image) (before links : List Link) (s : State) → Grows image before links → IsMet image before s → IsMet image links s
-met-kept image before links s grows (k, within, leads) =
-    let more = grows.more in (k, omega (arith, within, more), grows.keeps k s leads)
+pub met-kept : (image : Image) (before links : List Link) (n : ℕ) (s : State) → Grows image before links → IsMet image before n s → IsMet image links n s
+met-kept image before links n s grows (k, within, events, path, run, few) =
+    let more = grows.more in (k, omega (arith, within, more), events, grows.paths k events path, run, few)
 
 -- the state that the new link leads to
 new-leads : (image : Image) (before : List Link) (link : Link) (s s2 : State) → link.parent ≤ length before → Leads image before link.parent s → Step s link.event s2 → Leads image (before ++ link ∷ []) (length before + 1) s2
@@ -122,12 +122,12 @@ three-ways k n h = elim (le-or-lt k (n + 1)) [ inl less ↦ inl (omega (arith, l
 tree-add : (before : List Link) (link : Link) → IsTree before → link.parent ≤ length before → IsTree (before ++ link ∷ [])
 tree-add before link tree up n other at =
     elim (le-or-lt n (length before)) [
-      inl less ↦ tree n other (get-less before (link ∷ []) n other less at)
-    | inr past ↦
-        (let within = slice_get_within (before ++ link ∷ []) n other at in
-        let here : n ≡ length before = grind (arith, length-append, within, past) in
-        let same : link ≡ other = (let both : Some link ≡ Some other = sym (get-front before link) ∙ ap (λ (i : ℕ). slice_get (before ++ link ∷ []) i) (sym here) ∙ at in cc) in
-        subst (λ (l : Link). l.parent ≤ n) same (subst (λ (i : ℕ). link.parent ≤ i) (sym here) up))
+      | inl less ↦ tree n other (get-less before (link ∷ []) n other less at)
+      | inr past ↦
+          (let within = slice_get_within (before ++ link ∷ []) n other at in
+          let here : n ≡ length before = grind (arith, length-append, within, past) in
+          let same : link ≡ other = (let both : Some link ≡ Some other = sym (get-front before link) ∙ ap (λ (i : ℕ). slice_get (before ++ link ∷ []) i) (sym here) ∙ at in cc) in
+          subst (λ (l : Link). l.parent ≤ n) same (subst (λ (i : ℕ). link.parent ≤ i) (sym here) up))
     ]
 
 are-by : (image : Image) (before : List Link) (link : Link) (s s2 : State) → AreMet image before → link.parent ≤ length before → Leads image before link.parent s → Step s link.event s2 → AreMet image (before ++ link ∷ [])
@@ -135,10 +135,10 @@ are-by image before link s s2 are up leads step = record {
   described = are.described;
   tree = tree-add before link are.tree up;
   reached = λ k within.
-    elim (three-ways k (length before) (grind (arith, length-append, within))) as (λ _. (now : State) × Leads image (before ++ link ∷ []) k now) [
-      | inl old ↦ (let there = are.reached k old in (there.0, leads-kept image before (link ∷ []) k there.0 there.1))
-      | inr new ↦ (s2, subst (λ (i : ℕ). Leads image (before ++ link ∷ []) i s2) (sym new) (new-leads image before link s s2 up leads step))
-    ];
+      elim (three-ways k (length before) (grind (arith, length-append, within))) as (λ _. (now : State) × Leads image (before ++ link ∷ []) k now) [
+        | inl old ↦ (let there = are.reached k old in (there.0, leads-kept image before (link ∷ []) k there.0 there.1))
+        | inr new ↦ (s2, subst (λ (i : ℕ). Leads image (before ++ link ∷ []) i s2) (sym new) (new-leads image before link s s2 up leads step))
+      ];
 }
 
 pub are-add : (image : Image) (before links : List Link) (parent : ℕ) (event : Event) (s s2 : State) → AreMet image before → Adds before parent event links → parent ≤ length before → Leads image before parent s → Step s event s2 → AreMet image links
@@ -146,16 +146,95 @@ are-add image before links parent event s s2 are (link, from, by, is) up leads s
     subst (λ (ls : List Link). AreMet image ls) (sym is)
     (are-by image before link s s2 are (subst (λ (p : ℕ). p ≤ length before) (sym from) up) (subst (λ (p : ℕ). Leads image before p s) (sym from) leads) (subst (λ (e : Event). Step s e s2) (sym by) step))
 
-pub met-add : (image : Image) (before links : List Link) (parent : ℕ) (event : Event) (s s2 : State) → Adds before parent event links → parent ≤ length before → Leads image before parent s → Step s event s2 → IsMet image links s2
-met-add image before links parent event s s2 (link, from, by, is) up leads step =
-    subst (λ (ls : List Link). IsMet image ls s2) (sym is)
-    (length before + 1, grind (arith, length-append),
-      new-leads image before link s s2 (subst (λ (p : ℕ). p ≤ length before) (sym from) up) (subst (λ (p : ℕ). Leads image before p s) (sym from) leads) (subst (λ (e : Event). Step s e s2) (sym by) step))
+-- Layers.
+
+path-less : (links more : List Link) (k : ℕ) (events : List Event) → k ≤ length links → PathTo (links ++ more) k events → PathTo links k events
+path-less links more k events within (opens here none) = opens here none
+path-less links more k events within (goes {n} {link} {before} is at up path last) =
+    goes is (get-less links more n link (omega (arith, within, is)) at) up (path-less links more link.parent before (omega (arith, within, is, up)) path) last
+
+-- a number past the links has no path
+path-within : (links : List Link) (k : ℕ) (events : List Event) → PathTo links k events → k ≤ length links
+path-within links k events (opens here none) = omega (arith, here)
+path-within links k events (goes {n} {link} is at up path last) = let within = slice_get_within links n link at in omega (arith, is, within)
+
+-- the path to the new link has one event more than that to its parent
+path-new : (before : List Link) (link : Link) (k : ℕ) (events : List Event) → k ≡ length before + 1 → PathTo (before ++ link ∷ []) k events → (front : List Event) × PathTo before link.parent front × (length events ≡ length front + 1)
+path-new before link k events new (opens here none) = absurd (omega (arith, new, here))
+path-new before link k events new (goes {n} {link = other} {before = front} is at up path last) =
+    let here : n ≡ length before = omega (arith, is, new) in
+    let same : other ≡ link = (let both : Some other ≡ Some link = sym at ∙ ap (λ (i : ℕ). slice_get (before ++ link ∷ []) i) here ∙ get-front before link in cc) in
+    let less = path-less before (link ∷ []) other.parent front (omega (arith, up, here)) path in
+    (front, subst (λ (l : Link). PathTo before l.parent front) same less, ap (λ (es : List Event). length es) last ∙ length-append front (other.event ∷ []))
+
+record IsOld (before : List Link) (k : ℕ) (events : List Event) : Type 0 where
+  pub within : k ≤ length before
+  pub path : PathTo before k events
+
+record IsNew (before : List Link) (parent k : ℕ) (events : List Event) : Type 0 where
+  pub last : k ≡ length before + 1
+  pub front : List Event
+  pub path : PathTo before parent front
+  pub long : length events ≡ length front + 1
+
+old-or-new : (before : List Link) (link : Link) (k : ℕ) (events : List Event) → PathTo (before ++ link ∷ []) k events → IsOld before k events ⊎ IsNew before link.parent k events
+old-or-new before link k events path =
+    let within = path-within (before ++ link ∷ []) k events path in
+    elim (three-ways k (length before) (grind (arith, length-append, within))) as (λ _. IsOld before k events ⊎ IsNew before link.parent k events) [
+      | inl old ↦ inl (record { within = old; path = path-less before (link ∷ []) k events old path })
+      | inr new ↦ (let parts = path-new before link k events new path in inr (record { last = new; front = parts.0; path = parts.1; long = parts.2 }))
+    ]
+
+layered-two : (before : List Link) (parent : ℕ) → AreLayered before → IsNear before parent → (i j : ℕ) (events others : List Event) → i ≤ j → IsOld before i events ⊎ IsNew before parent i events
+    → IsOld before j others ⊎ IsNew before parent j others → length events ≤ length others
+layered-two before parent layered near i j events others le (inl a) (inl b) = layered i j events others le a.path b.path
+layered-two before parent layered near i j events others le (inl a) (inr b) =
+    let h = near i b.front events b.path a.path in let long = b.long in omega (arith, h, long)
+layered-two before parent layered near i j events others le (inr a) (inl b) = let last = a.last in let within = b.within in absurd (omega (arith, le, last, within))
+layered-two before parent layered near i j events others le (inr a) (inr b) =
+    let same = ap (λ (es : List Event). length es) (one-path before parent a.front b.front a.path b.path) in let one = a.long in let two = b.long in omega (arith, same, one, two)
+
+near-two : (before : List Link) (parent : ℕ) → parent ≤ length before → IsNear before parent → (j : ℕ) (events others : List Event) → IsOld before parent events ⊎ IsNew before parent parent events
+    → IsOld before j others ⊎ IsNew before parent j others → length others ≤ length events + 1
+near-two before parent up near j events others (inl a) (inl b) = near j events others a.path b.path
+near-two before parent up near j events others (inl a) (inr b) =
+    let same = ap (λ (es : List Event). length es) (one-path before parent events b.front a.path b.path) in let long = b.long in omega (arith, same, long)
+near-two before parent up near j events others (inr a) b = let last = a.last in absurd (omega (arith, last, up))
+
+pub layered-add : (before links : List Link) (parent : ℕ) (event : Event) → Adds before parent event links → AreLayered before → IsNear before parent → AreLayered links
+layered-add before links parent event (link, from, by, is) layered near i j events others le path other =
+    let one = old-or-new before link i events (subst (λ (ls : List Link). PathTo ls i events) is path) in
+    let two = old-or-new before link j others (subst (λ (ls : List Link). PathTo ls j others) is other) in
+    layered-two before link.parent layered (subst (λ (p : ℕ). IsNear before p) (sym from) near) i j events others le one two
+
+pub near-add : (before links : List Link) (parent : ℕ) (event : Event) → Adds before parent event links → parent ≤ length before → IsNear before parent → IsNear links parent
+near-add before links parent event (link, from, by, is) up near j events others path other =
+    let one = old-or-new before link parent events (subst (λ (ls : List Link). PathTo ls parent events) is path) in
+    let two = old-or-new before link j others (subst (λ (ls : List Link). PathTo ls j others) is other) in
+    near-two before parent up near j events others (subst (λ (p : ℕ). IsOld before parent events ⊎ IsNew before p parent events) from one) (subst (λ (p : ℕ). IsOld before j others ⊎ IsNew before p j others) from two)
+
+-- to the next number leads as many events, or one more
+pub near-next : (image : Image) (links : List Link) (k : ℕ) → AreMet image links → k ≤ length links → AreLayered links → IsNear links k → IsNear links (k + 1)
+near-next image links k are within layered near j events others path other =
+    let there = are.reached k within in
+    let one = layered k (k + 1) there.1.0 events (omega arith) there.1.1 path in
+    let two = near j there.1.0 others there.1.1 other in omega (arith, one, two)
+
+pub few-add : (before links : List Link) (parent most : ℕ) (event : Event) → Adds before parent event links → length before < most → length links ≤ most
+few-add before links parent most event (link, from, by, is) less = let long = ap (λ (ls : List Link). length ls) is in grind (arith, length-append, long, less)
+
+pub known-add : (image : Image) (before links : List Link) (parent : ℕ) (event : Event) (s s2 : State) → Adds before parent event links → parent ≤ length before → Leads image before parent s → Step s event s2 → IsKnown image links s2
+known-add image before links parent event s s2 (link, from, by, is) up leads step =
+    subst (λ (ls : List Link). IsKnown image ls s2) (sym is) (
+      length before + 1,
+      grind (arith, length-append),
+      new-leads image before link s s2 (subst (λ (p : ℕ). p ≤ length before) (sym from) up) (subst (λ (p : ℕ). Leads image before p s) (sym from) leads) (subst (λ (e : Event). Step s e s2) (sym by) step),
+    )
 
 -- one state to which an event leads was met, so each is
-pub leads-on : (image : Image) (before links : List Link) (k : ℕ) (event : Event) (s s2 : State) → AreMet image links → Grows image before links → Leads image before k s → Step s event s2 → IsMet image links s2 → LeadsOn image links k event
-leads-on image before links k event s s2 are grows leads step met a b there other =
-    let here = grows.keeps k s leads in
-    let same : s ≡ a = one-state image are.described links k s a here there in
-    let next = step-one image are.described there.0 a there.2 event s2 b (subst (λ (now : State). Step now event s2) same step) other in
-    subst (λ (now : State). IsMet image links now) next met
+pub leads-on : (image : Image) (before links : List Link) (k : ℕ) (event : Event) (s s2 : State) → AreMet image links → Grows image before links → IsNear links k → Leads image before k s → Step s event s2 → IsKnown image links s2 → LeadsOn image links k event
+leads-on image before links k event s s2 are grows near leads step (j, within, (others, path2, run2)) events a b path run other =
+    let here : Leads image links k s = (leads.0, grows.paths k leads.0 leads.1, leads.2) in
+    let same : s ≡ a = one-state image are.described links k s a here (events, path, run) in
+    let next : s2 ≡ b = step-one image are.described events a run event s2 b (subst (λ (now : State). Step now event s2) same step) other in
+    (j, within, others, path2, subst (λ (now : State). IsRun image others now) next run2, near j events others path path2)

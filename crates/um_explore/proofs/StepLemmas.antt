@@ -191,7 +191,7 @@ pub pairs-rows : (s : State) (t : ℕ) (events : List Event) (n : ℕ) → lengt
     → ((x : ℕ) → x < n → (who : ThreadIx) → HasPair s t events who x) → (who : ThreadIx) → HasStep s t events (Pending.CleanPair who)
 pairs-rows s t events n whole all has who x m = elim (le-or-lt x n) [ inl within ↦ has x within who m | inr past ↦ absurd (no-pair-past s who.0 x whole (omega (arith, past, all)) m.1) ]
 
-none-below : (n : ℕ) → n < 0 → ⊥
+pub none-below : (n : ℕ) → n < 0 → ⊥
 none-below n h = omega arith
 
 pub no-others : (s : State) (t : ℕ) (events : List Event) → HasOthers s t 0 events

@@ -5,7 +5,9 @@ use Rattle.um_base.specs.declared.image.Image.{Image}
 use Rattle.um_invariants.specs.Described.{IsDescribed}
 use Rattle.um_machine.specs.Run.{IsRun, Step}
 use Rattle.um_machine.specs.State.{State}
-use Rattle.um_explore.specs.Questions.{IsOfForm}
+use Rattle.um_explore.specs.Questions.{IsNever, IsOfForm}
+use Rattle.um_explore.specs.declared.search.Expanded.{Expanded}
+use Rattle.um_explore.specs.declared.search.Outcome.{Outcome}
 use Rattle.um_explore.specs.declared.met.Link.{Link}
 
 -- The events that lead to the state of a number: none to the opening, which has number 0.
@@ -28,25 +30,37 @@ pub record AreMet (image : Image) (links : List Link) : Type 0 where
   pub reached : (k : ℕ) → k ≤ length links → (s : State) × Leads image links k s
 
 -- a state is among those that were met
-abbrev pub IsMet : Image → List Link → State → Type 0
-IsMet image links s = (k : ℕ) × (k ≤ length links) × Leads image links k s
+abbrev pub IsKnown : Image → List Link → State → Type 0
+IsKnown image links s = (k : ℕ) × (k ≤ length links) × Leads image links k s
 
--- no step from a state has an event of the form, and each leads to a state that was met
-abbrev pub IsDone : Image → (List ℕ → Bool) → List Link → State → Type 0
-IsDone image form links s = (event : Event) (s2 : State) → Step s event s2 → (IsOfForm image form event → ⊥) × IsMet image links s2
+-- and no more than so many events lead to it
+abbrev pub IsMet : Image → List Link → ℕ → State → Type 0
+IsMet image links n s = (k : ℕ) × (k ≤ length links) × (events : List Event) × PathTo links k events × IsRun image events s × (length events ≤ n)
 
--- A tree of states grew: each number has the state that it had.
+-- no step from a state to which so many events lead has an event of the form, and each leads to a state that was met, by one event more
+abbrev pub IsDone : Image → (List ℕ → Bool) → List Link → ℕ → State → Type 0
+IsDone image form links n s = (event : Event) (s2 : State) → Step s event s2 → (IsOfForm image form event → ⊥) × IsMet image links (n + 1) s2
+
+-- A tree of states grew: to each number lead the events that did.
 pub record Grows (image : Image) (before links : List Link) : Type 0 where
   pub more : length before ≤ length links
-  pub keeps : (k : ℕ) (s : State) → Leads image before k s → Leads image links k s
+  pub paths : (k : ℕ) (events : List Event) → PathTo before k events → PathTo links k events
 
--- each step with this event from the state of a number leads to a state that was met
+-- to later numbers lead as many events, or more
+abbrev pub AreLayered : List Link → Type 0
+AreLayered links = (i j : ℕ) (events others : List Event) → i ≤ j → PathTo links i events → PathTo links j others → length events ≤ length others
+
+-- to no number leads more than one event more than to this one
+abbrev pub IsNear : List Link → ℕ → Type 0
+IsNear links k = (j : ℕ) (events others : List Event) → PathTo links k events → PathTo links j others → length others ≤ length events + 1
+
+-- each step with this event from the state of a number leads to a state that was met, by one event more
 abbrev pub LeadsOn : Image → List Link → ℕ → Event → Type 0
-LeadsOn image links k event = (s s2 : State) → Leads image links k s → Step s event s2 → IsMet image links s2
+LeadsOn image links k event = (events : List Event) (s s2 : State) → PathTo links k events → IsRun image events s → Step s event s2 → IsMet image links (length events + 1) s2
 
 -- the state of each number below this one is done
 abbrev pub AreDone : Image → (List ℕ → Bool) → List Link → ℕ → Type 0
-AreDone image form links n = (k : ℕ) (s : State) → k < n → Leads image links k s → IsDone image form links s
+AreDone image form links n = (k : ℕ) (events : List Event) (s : State) → k < n → PathTo links k events → IsRun image events s → IsDone image form links (length events) s
 
 -- an event of the form is a step from the state of a number
 abbrev pub IsHit : Image → (List ℕ → Bool) → List Link → ℕ → Event → Type 0
@@ -55,3 +69,15 @@ IsHit image form links k event = (s : State) × (s2 : State) × Leads image link
 -- one state more, to which an event leads from another one
 abbrev pub Adds : List Link → ℕ → Event → List Link → Type 0
 Adds before parent event links = (link : Link) × (link.parent ≡ parent) × (link.event ≡ event) × (links ≡ before ++ link ∷ [])
+
+-- how a search went on from the state of a number: all its steps are done, or this event of the form is one, or there is no more room
+abbrev pub Expands : Image → (List ℕ → Bool) → List Link → ℕ → Expanded → Type 0
+Expands image form links k Expanded.Done = (events : List Event) (s : State) → PathTo links k events → IsRun image events s → IsDone image form links (length events) s
+Expands image form links k (Expanded.Hit event) = IsHit image form links k event
+Expands image form links k Expanded.Full = Unit {0}
+
+-- how a search ended: no run has an event of the form, or this one is a step from the state of a number, and all states before are done
+abbrev pub Ends : Image → (List ℕ → Bool) → List Link → Outcome → Type 0
+Ends image form links Outcome.Never = IsNever image form
+Ends image form links (Outcome.Hit k event) = (k ≤ length links) × IsHit image form links k event × AreDone image form links k
+Ends image form links (Outcome.Full from) = Unit {0}

@@ -4,6 +4,7 @@
 mod forms;
 mod met;
 mod next;
+mod search;
 mod steps;
 
 pub use forms::fits;

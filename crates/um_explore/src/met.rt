@@ -3,7 +3,7 @@
 ghost use Rattle.std.specs.Prelude.{◌≡◌, ◌≤◌, [], IfOk, IsTrue, length, true};
 ghost use Rattle.um_machine.specs.State.{State};
 ghost use Rattle.um_matrix.specs.Offered.{IsStep};
-ghost use Rattle.um_explore.specs.Met.{Adds, AreMet, Grows, IsMet, IsTree, Leads, LeadsOn, PathTo};
+ghost use Rattle.um_explore.specs.Met.{Adds, AreLayered, AreMet, Grows, IsKnown, IsNear, IsTree, Leads, LeadsOn, PathTo};
 
 use std::alloc::Global;
 use um_base::{Act, Event, Image, OutOfMemory};
@@ -41,7 +41,7 @@ pub struct Met {
 }
 
 /// The events that lead from the opening to the state of a number.
-fn path(alloc: Global, links: &[Link], k: usize) -> Result<Vec<Event>, OutOfMemory>
+pub(crate) fn path(alloc: Global, links: &[Link], k: usize) -> Result<Vec<Event>, OutOfMemory>
     requires tree { IsTree links.now }
     requires met { k ≤ length links.now }
     ensures { IfOk result (λ events. PathTo links.now k events.items) }
@@ -58,7 +58,7 @@ fn path(alloc: Global, links: &[Link], k: usize) -> Result<Vec<Event>, OutOfMemo
 }
 
 /// The state of a number, made anew from the opening.
-fn rebuild<'a>(
+pub(crate) fn rebuild<'a>(
     alloc: Global,
     image: &'a Image,
     links: &[Link],
@@ -90,7 +90,11 @@ impl Met {
     /// The bucket of a digest.
     fn bucket(&self, digest: u64) -> usize {
         let buckets = self.buckets.len();
-        if buckets == 0 { 0 } else { (digest % buckets as u64) as usize }
+        if buckets == 0 {
+            0
+        } else {
+            (digest % buckets as u64) as usize
+        }
     }
 
     /// The number of the state in a bucket that was met last, or 0.
@@ -102,9 +106,16 @@ impl Met {
     }
 
     /// Whether a state was met. Where it says no, it may still have been.
-    fn knows<S: Compares>(&self, alloc: Global, image: &Image, compares: &S, state: &Matrix, digest: u64) -> Result<bool, OutOfMemory>
-            requires are { AreMet image.now self.now.links.items }
-        ensures { IfOk result (λ known. known ≡ true → IsMet image.now self.now.links.items state.now) }
+    fn knows<S: Compares>(
+        &self,
+        alloc: Global,
+        image: &Image,
+        compares: &S,
+        state: &Matrix,
+        digest: u64,
+    ) -> Result<bool, OutOfMemory>
+        requires are { AreMet image.now self.now.links.items }
+        ensures { IfOk result (λ known. known ≡ true → IsKnown image.now self.now.links.items state.now) }
     {
         let mut at = self.last_in(self.bucket(digest));
         while at > 0 && at <= self.links.len() {
@@ -148,7 +159,7 @@ impl Met {
 
     /// Makes a step from the state of a number, and adds the state to which it leads, unless that was met. No more than `most` states are
     /// kept: it says no where one more would have been needed.
-    fn take<S: Compares>(
+    pub(crate) fn take<S: Compares>(
         &mut self,
         alloc: Global,
         image: &Image,
@@ -157,10 +168,16 @@ impl Met {
         event: &Event,
         most: usize,
     ) -> Result<bool, OutOfMemory>
-            requires are { AreMet image.now self.old.links.items }
+        requires are { AreMet image.now self.old.links.items }
         requires met { parent ≤ length self.old.links.items }
+        requires layered { AreLayered self.old.links.items }
+        requires near { IsNear self.old.links.items parent }
+        requires few { length self.old.links.items ≤ most }
         requires step { (s : State) → Leads image.now self.old.links.items parent s → IsStep s event.now }
         ensures are { IfOk result (λ _. AreMet image.now self.new.links.items) }
+        ensures layered { IfOk result (λ _. AreLayered self.new.links.items) }
+        ensures near { IfOk result (λ _. IsNear self.new.links.items parent) }
+        ensures few { IfOk result (λ _. length self.new.links.items ≤ most) }
         ensures grows { IfOk result (λ _. Grows image.now self.old.links.items self.new.links.items) }
         ensures leads { IfOk result (λ room. room ≡ true → LeadsOn image.now self.new.links.items parent event.now) }
     {
@@ -173,7 +190,7 @@ impl Met {
         if self.knows(alloc, image, compares, &state, digest)? {
             return Ok(true);
         }
-        if self.links.len() >= most {
+        if self.links.as_slice().len() >= most {
             return Ok(false);
         }
         self.add(parent, event, digest)?;
