@@ -3,11 +3,13 @@ use Rattle.std.specs.Prelude.{◌≡◌, ℕ, ◌+◌, ◌<◌, ◌≤◌, Bool,
 use Rattle.um_base.specs.declared.act.Event.{Event}
 use Rattle.um_base.specs.declared.image.Image.{Image}
 use Rattle.um_invariants.specs.Described.{IsDescribed}
-use Rattle.um_machine.specs.Run.{IsRun, Step}
+use Rattle.um_machine.specs.Run.{IsComplete, IsRun, Step}
 use Rattle.um_machine.specs.State.{State}
+use Rattle.um_trace.specs.Text.{text}
 use Rattle.um_explore.specs.Questions.{IsNever, IsOfForm}
 use Rattle.um_explore.specs.declared.search.Expanded.{Expanded}
 use Rattle.um_explore.specs.declared.search.Outcome.{Outcome}
+use Rattle.um_explore.specs.declared.finding.Finding.{Finding}
 use Rattle.um_explore.specs.declared.met.Link.{Link}
 
 -- The events that lead to the state of a number: none to the opening, which has number 0.
@@ -81,3 +83,15 @@ abbrev pub Ends : Image → (List ℕ → Bool) → List Link → Outcome → Ty
 Ends image form links Outcome.Never = IsNever image form
 Ends image form links (Outcome.Hit k event) = (k ≤ length links) × IsHit image form links k event × AreDone image form links k
 Ends image form links (Outcome.Full from) = Unit {0}
+
+-- what is shown of an event that is a step from the state of a number: the text of a complete run that begins with the events that lead
+-- there, and this one; or nothing
+abbrev pub Shows : Image → List Link → ℕ → Event → Finding → Type 0
+Shows image links k event (Finding.Found bytes) =
+    (front : List Event) × (more : List Event) × (last : State) × PathTo links k front × IsRun image (front ++ event ∷ more) last × IsComplete last × (bytes.items ≡ text image (front ++ event ∷ more) last)
+Shows image links k event (Finding.Never states) = ⊥
+Shows image links k event (Finding.Unknown states unseen) = Unit {0}
+
+abbrev pub IsUnknown : Finding → Type 0
+IsUnknown (Finding.Unknown states unseen) = Unit {0}
+IsUnknown _ = ⊥

@@ -8,6 +8,7 @@ use Rattle.um_machine.specs.State.{State}
 use Rattle.um_trace.specs.Acts.{event_line}
 use Rattle.um_trace.specs.Text.{text}
 use Rattle.um_explore.specs.Steps.{AreSteps, Has}
+use Rattle.um_explore.specs.declared.finding.Finding.{Finding}
 use Rattle.um_explore.specs.declared.next.Next.{Next}
 
 -- the lines of events, one after another
@@ -79,3 +80,9 @@ IsFirstOf image events rest room (Some event) = (more : List ℕ) × Has events 
 abbrev pub Followed : Image → List ℕ → State → Option ℕ → Type 0
 Followed image bytes s None = AreLines image bytes s
 Followed image bytes s (Some count) = (rest : List ℕ) × IsFollowed image bytes rest count s × (rest ≢ []) × IsNoLine image rest s
+
+-- what is answered of a form: never, or a run that has such an event; that it isn't known says nothing
+abbrev pub IsFinding : Image → (List ℕ → Bool) → Finding → Type 0
+IsFinding image form (Finding.Found bytes) = IsFound image form bytes.items
+IsFinding image form (Finding.Never states) = IsNever image form
+IsFinding image form (Finding.Unknown states unseen) = Unit {0}

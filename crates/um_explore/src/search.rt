@@ -79,7 +79,7 @@ fn expand<S: Compares>(
 }
 
 /// Looks at the steps of all states that runs reach, until one has an event of the form.
-fn search<S: Compares>(
+pub(crate) fn search<S: Compares>(
     alloc: Global,
     asked: &Asked,
     compares: &S,

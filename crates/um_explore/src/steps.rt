@@ -1,6 +1,6 @@
 //! The steps that a state offers.
 
-ghost use Rattle.std.specs.Prelude.{◌≡◌, ◌<◌, ◌≤◌, ℕ, IfOk, IsTrue, None, Some, false, [], length, slice_get, slice_index_or};
+ghost use Rattle.std.specs.Prelude.{◌≡◌, ◌<◌, ◌≤◌, ℕ, IfOk, IsTrue, None, Some, false, [], length, slice_get, slice_index_or, ◌++◌, ◌∷◌};
 ghost use Rattle.um_base.specs.declared.names.ThreadIx.{ThreadIx};
 ghost use Rattle.um_machine.specs.{
   Joins.{is_ending},
@@ -18,6 +18,18 @@ ghost use Rattle.um_explore.specs.Steps.{AreSteps, GoesOn, Has, HasOthers, HasPa
 use um_base::{Act, Event, OutOfMemory, ROWS, THREADS, ThreadIx};
 use um_machine::{Pending, Status};
 use um_matrix::Tables;
+
+/// Adds an event to a list.
+pub(crate) fn push(event: &Event, events: &mut Vec<Event>) -> Result<(), OutOfMemory>
+    ensures { IfOk result (λ _. events.new.items ≡ events.old.items ++ event.now ∷ []) }
+{
+    let act: &Act = &event.act;
+    events.push(Event {
+        thread: event.thread,
+        act: *act,
+    })?;
+    Ok(())
+}
 
 /// Adds what a thread says, which is a step.
 fn add(tables: &Tables, t: usize, act: &Act, events: &mut Vec<Event>) -> Result<(), OutOfMemory>
