@@ -23,7 +23,8 @@ const MOST_BUCKETS: usize = 1_048_576;
 
 /// Goes on with a run until it is complete, if it comes to its end within so many steps, and says whether it did.
 fn finish(state: &mut Matrix, run: &mut Vec<Event>) -> Result<bool, OutOfMemory>
-    ensures run { IfOk result (λ _. (s : State) → Runs s run.old.items state.old → Runs s run.new.items state.new) }
+    ensures run { IfOk result
+        (λ _. (s : State) → Runs s run.old.items state.old → Runs s run.new.items state.new) }
     ensures more { IfOk result (λ _. (more : List Event) × (run.new.items ≡ run.old.items ++ more)) }
     ensures complete { IfOk result (λ ended. ended ≡ true → IsComplete state.new) }
 {

@@ -179,7 +179,8 @@ impl Met {
         ensures near { IfOk result (λ _. IsNear self.new.links.items parent) }
         ensures few { IfOk result (λ _. length self.new.links.items ≤ most) }
         ensures grows { IfOk result (λ _. Grows image.now self.old.links.items self.new.links.items) }
-        ensures leads { IfOk result (λ room. room ≡ true → LeadsOn image.now self.new.links.items parent event.now) }
+        ensures leads { IfOk result
+            (λ room. room ≡ true → LeadsOn image.now self.new.links.items parent event.now) }
     {
         let mut state = rebuild(alloc, image, &self.links, parent)?;
         match state.apply(event) {

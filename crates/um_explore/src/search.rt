@@ -60,7 +60,8 @@ fn expand<S: Compares>(
     ensures near { IfOk result (λ _. IsNear met.new.links.items k) }
     ensures few { IfOk result (λ _. length met.new.links.items ≤ asked.now.most) }
     ensures grows { IfOk result (λ _. Grows asked.now.image.now met.old.links.items met.new.links.items) }
-    ensures expands { IfOk result (λ expanded. Expands asked.now.image.now (fits asked.now.form.now) met.new.links.items k expanded) }
+    ensures expands { IfOk result
+        (λ expanded. Expands asked.now.image.now (fits asked.now.form.now) met.new.links.items k expanded) }
     ensures capacity { vec_capacity room.old ≤ vec_capacity room.new }
 {
     let state = rebuild(alloc, asked.image, met.links.as_slice(), k)?;
@@ -92,7 +93,8 @@ pub(crate) fn search<S: Compares>(
     requires room { LINE_ROOM ≤ vec_capacity room.old }
     ensures are { IfOk result (λ _. AreMet asked.now.image.now met.new.links.items) }
     ensures layered { IfOk result (λ _. AreLayered met.new.links.items) }
-    ensures ends { IfOk result (λ outcome. Ends asked.now.image.now (fits asked.now.form.now) met.new.links.items outcome) }
+    ensures ends { IfOk result
+        (λ outcome. Ends asked.now.image.now (fits asked.now.form.now) met.new.links.items outcome) }
 {
     let mut events = Vec::new(alloc);
     let mut k = 0;

@@ -71,7 +71,9 @@ fn add_rest(tables: &Tables, t: usize, events: &mut Vec<Event>) -> Result<(), Ou
     requires thread { t < THREADS }
     requires rest { slice_get (thread_at tables.now t).pending 0 ≡ None }
     ensures goes { IfOk result (λ _. GoesOn tables.now events.old.items events.new.items) }
-    ensures has { IfOk result (λ _. (step : Pending) → rest_step tables.now t ≡ Some step → HasStep tables.now t events.new.items step) }
+    ensures has { IfOk result
+        (λ _. (step : Pending) → rest_step tables.now t ≡ Some step
+        → HasStep tables.now t events.new.items step) }
 {
     match tables.rest_act(t) {
         None => Ok(()),
@@ -109,7 +111,9 @@ fn add_second(tables: &Tables, t: usize, events: &mut Vec<Event>) -> Result<(), 
 fn add_leaving(tables: &Tables, t: usize, events: &mut Vec<Event>) -> Result<(), OutOfMemory>
     requires thread { t < THREADS }
     ensures goes { IfOk result (λ _. GoesOn tables.now events.old.items events.new.items) }
-    ensures has { IfOk result (λ _. IsTrue (is_ending (thread_at tables.now t)) → HasStep tables.now t events.new.items Pending.Left) }
+    ensures has { IfOk result
+        (λ _. IsTrue (is_ending (thread_at tables.now t))
+        → HasStep tables.now t events.new.items Pending.Left) }
 {
     if !tables.is_ending(t) {
         return Ok(());
@@ -186,7 +190,8 @@ fn add_pairs(tables: &Tables, t: usize, events: &mut Vec<Event>) -> Result<(), O
     requires thread { t < THREADS }
     requires started { IsTrue (is_started (thread_at tables.now t).life) }
     ensures goes { IfOk result (λ _. GoesOn tables.now events.old.items events.new.items) }
-    ensures has { IfOk result (λ _. (who : ThreadIx) → HasStep tables.now t events.new.items (Pending.CleanPair who)) }
+    ensures has { IfOk result
+        (λ _. (who : ThreadIx) → HasStep tables.now t events.new.items (Pending.CleanPair who)) }
 {
     for x in 0..tables.pairs().len() {
         add_pairs_at(tables, t, x, events)?;
@@ -200,7 +205,8 @@ fn add_cleaning(tables: &Tables, t: usize, events: &mut Vec<Event>) -> Result<()
     requires started { IsTrue (is_started (thread_at tables.now t).life) }
     ensures goes { IfOk result (λ _. GoesOn tables.now events.old.items events.new.items) }
     ensures recycles { IfOk result (λ _. HasStep tables.now t events.new.items Pending.Recycle) }
-    ensures pairs { IfOk result (λ _. (who : ThreadIx) → HasStep tables.now t events.new.items (Pending.CleanPair who)) }
+    ensures pairs { IfOk result
+        (λ _. (who : ThreadIx) → HasStep tables.now t events.new.items (Pending.CleanPair who)) }
 {
     if !is_any_gone(tables) {
         return Ok(());
@@ -220,7 +226,8 @@ fn add_waking(
     requires of { who < THREADS }
     requires started { IsTrue (is_started (thread_at tables.now t).life) }
     ensures goes { IfOk result (λ _. GoesOn tables.now events.old.items events.new.items) }
-    ensures times { IfOk result (λ _. HasStep tables.now t events.new.items (Pending.TimeOut (to_thread who))) }
+    ensures times { IfOk result
+        (λ _. HasStep tables.now t events.new.items (Pending.TimeOut (to_thread who))) }
     ensures cuts { IfOk result (λ _. HasStep tables.now t events.new.items (Pending.Cut (to_thread who))) }
 {
     let who = ThreadIx(who as u8);
