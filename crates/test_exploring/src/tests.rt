@@ -36,13 +36,9 @@ fn image_of(alloc: Global, description: &str) -> Result<Image, Fail>
 }
 
 /// Compares what can come next in a text with these lines.
-fn comes(
-    rt: &impl Abort,
-    alloc: Global,
-    image: &Image,
-    text: &str,
-    lines: &str,
-) -> Result<(), Fail> {
+fn comes(rt: &impl Abort, alloc: Global, image: &Image, text: &str, lines: &str) -> Result<(), Fail>
+    requires { IsLawful image.now }
+{
     if text.len() > 100_000 {
         return Err(Fail::new("long"));
     }
