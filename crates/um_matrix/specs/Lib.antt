@@ -3,3 +3,4 @@ pub mod Worked
 pub mod Lending
 pub mod OfRun
 pub mod Ahead
+pub mod Same

@@ -17,6 +17,7 @@ mod next;
 mod objects;
 mod pairs;
 mod rows;
+mod same;
 mod says;
 mod stops;
 mod strings;
