@@ -7,6 +7,7 @@ mod outside;
 mod picks;
 mod runs;
 mod texts;
+mod turns;
 
 ghost use Rattle.std.specs.Prelude.{◌≤◌};
 

@@ -26,6 +26,7 @@ use Rattle.um_board.specs.Noted.{logged_of, made_of}
 use Rattle.um_history.specs.Fine.{IsFineOf}
 use Rattle.um_history.specs.Left.{AreLeft}
 use Rattle.um_history.specs.Played.{Each, HasList, IsPlayed}
+use Rattle.um_history.proofs.Played.{list-of, of-played}
 use Rattle.um_cpu.specs.OnBoard.{HasRun}
 
 -- a lawful image with as many objects and domains as its lists allow is described, and this many processors can run it
@@ -91,6 +92,13 @@ left-on image cpus closed v logs steps seen played chosen g fine over left =
       image_is = ap (λ (w : View). w.image) seen ∙ played.image_is;
       run = fine.run;
       over = over;
+      on_board =
+          record {
+            history = played.closed.history;
+            of = of-played image cpus v (slots_items closed.table.words) (slots_items closed.table.slots) logs steps played;
+            made = λ k less.
+                list-of image cpus v (slots_items closed.table.words) (slots_items closed.table.slots) logs steps played k less ∙ ap (map made_of) (sym (fine.own k less));
+          };
       some = played.some;
       lists = λ k less.
           let (made, stands, own) = played.lists k less in

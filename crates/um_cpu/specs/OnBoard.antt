@@ -2,7 +2,7 @@
 use Rattle.std.specs.Prelude.{◌≡◌, ℕ, ◌<◌, eqb, List, [], map, slice_index}
 use Rattle.std.specs.Mem.Slots.{slots_items}
 use Rattle.um_base.specs.declared.image.Image.{Image}
-use Rattle.um_words.specs.History.{bare}
+use Rattle.um_words.specs.History.{Entry, bare, by_seat}
 use Rattle.um_fine.specs.FineRun.{IsFineRun, cpu_of, same_cpu, site_of}
 use Rattle.um_fine.specs.Opening.{s_start}
 use Rattle.um_fine.specs.Runs.{state_at, sublist}
@@ -18,7 +18,14 @@ use Rattle.um_board.specs.Contents.{Known}
 use Rattle.um_board.specs.NextSteps.{seat_name}
 use Rattle.um_board.specs.Noted.{logged_of, made_of, packed}
 use Rattle.um_history.specs.Left.{AreLeft}
-use Rattle.um_history.specs.Played.{HasList}
+use Rattle.um_history.specs.Played.{HasList, IsHistoryOf}
+
+-- The board has one history with these words: each seat made only the next step that its processor asked for, and what each processor's seat
+-- made is what that processor did of these steps.
+pub record WasMadeOnBoard (image : Image) (cpus : ℕ) (words : List ℕ) (steps : List FineStep) : Type 0 where
+  pub history : List Entry
+  pub of : IsHistoryOf image cpus words history
+  pub made : (k : ℕ) → k < cpus → by_seat (seat_name k) history ≡ map made_of (sublist same_cpu cpu_of k steps)
 
 -- The board is that of an image, and was closed after these steps, which are a fine run of this many processors; none of them can make
 -- another step. If there is one processor, each step was chosen. The steps of each processor stand in the list of a seat of its own, in their
@@ -28,6 +35,7 @@ pub record HasRun (image : Image) (cpus : ℕ) (closed : Closed Known) (steps : 
   pub image_is : closed.token.me.0.image ≡ image
   pub run : IsFineRun image cpus steps
   pub over : IsOver image cpus steps
+  pub on_board : WasMadeOnBoard image cpus (slots_items closed.table.words) steps
   pub some : 0 < cpus
   pub lists : (k : ℕ) → k < cpus → HasList closed.token.me.0 k (map made_of (sublist same_cpu cpu_of k steps))
   pub others : (n : List ℕ) → Among closed.token.me.0.joined n → (k : ℕ) × (k < cpus) × (n ≡ seat_name k)

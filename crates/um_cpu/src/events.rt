@@ -3,6 +3,7 @@
 ghost use Rattle.std.specs.Prelude.{◌≡◌, ◌≤◌, IfOk, List, length};
 ghost use Rattle.um_base.specs.{Lawful.{IsLawful}, Weight.{weight}};
 ghost use Rattle.um_fine.specs.{Erasure.{shown}, Steps.{FineStep}};
+ghost use Rattle.um_laws.specs.Obeys.{ObeysLaws};
 ghost use Rattle.um_merge.specs.Logs.{events_of};
 ghost use Rattle.um_refinement.specs.Shows.{AreCompleteRun};
 ghost use Rattle.um_cpu.specs.{OnBoard.{HasRun}, Standing.{IsLastState}};
@@ -17,6 +18,7 @@ use um_closing::every_closing;
 use um_fine_measure::longest_fine_run;
 use um_history::every_played_board;
 use um_io::Gate;
+use um_laws::every_run;
 use um_merge::{Log, merge};
 use um_site::Closed;
 
@@ -27,8 +29,8 @@ pub struct Ran {
 }
 
 /// Runs this many processors on a board of the image, each in a thread of its own if one can be made, and merges the steps that they made
-/// there into one list. Its events are a complete run, whose last state the board keeps. Each log and the list have room for `most` steps, which is at least the image's
-/// weight. A gate can hold each processor before its turns.
+/// there into one list. Its events are a complete run, which obeys the laws and whose last state the board keeps. Each log and the list have
+/// room for `most` steps, which is at least the image's weight. A gate can hold each processor before its turns.
 pub fn run_events<R: Threads + Wait + Sync, G: Gate + Sync>(
     rt: &R,
     alloc: Global,
@@ -47,10 +49,12 @@ pub fn run_events<R: Threads + Wait + Sync, G: Gate + Sync>(
         × (ran.events.items ≡ shown steps)) }
     ensures closes { IfOk result (λ ran. IsLastState image.now ran.closed ran.events.items) }
     ensures few { IfOk result (λ ran. length ran.events.items ≤ weight image.now) }
+    ensures laws { IfOk result (λ ran. ObeysLaws image.now ran.events.items) }
 {
     every_played_board();
     every_closing();
     longest_fine_run();
+    every_run();
     let _objects = image.objects.len();
     let _domains = image.domains.len();
     let mut steps = Log::with_room(alloc, most)?;

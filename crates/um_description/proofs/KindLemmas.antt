@@ -80,6 +80,11 @@ module _ (d : Description) where
   unfolding entry_flaws
   entries_in_limits h = in_limits d (none_both _ (limits d) (nothing _ h)).1
 
+  -- and none of its limits is passed
+  pub limits_none : None ≡ first_of (entry_flaws d) → limits d ≡ []
+  unfolding entry_flaws
+  limits_none h = (none_both _ (limits d) (nothing _ h)).1
+
   kinds_are : flaws d ≡ entry_flaws d ++ (line_flaws d ++ image_flaws d)
   unfolding entry_flaws line_flaws
   kinds_are = simp append_assoc

@@ -1,5 +1,5 @@
 -- That the first flaw of a description is told, and that one without a flaw means a lawful image. First lists and names: Firsts, EachLemmas, NameLemmas, KnownLemmas,
--- SeenLemmas, AgainLemmas, DuplicateLemmas, SpotLemmas; numbers: RangeLemmas, PackingLemmas, WeightLemmas, SameWeight, WithoutLimits; then KindLemmas and MeaningLemmas.
+-- SeenLemmas, AgainLemmas, DuplicateLemmas, SpotLemmas; numbers: RangeLemmas, PackingLemmas, PackedLemmas, WeightLemmas, SameWeight, WithoutLimits; then KindLemmas and MeaningLemmas.
 -- The files named Lawful have one part of the image each, and LawfulImage has them all.
 pub mod Firsts
 pub mod NameLemmas
@@ -13,6 +13,7 @@ mod WeightLemmas
 mod SameWeight
 mod MeaningLemmas
 mod PackingLemmas
+mod PackedLemmas
 mod SpotLemmas
 pub mod WithoutLimits
 mod KindLemmas

@@ -96,7 +96,7 @@ unfolding pool_limits
 pool_right i p h = not_told (i == POOLS) _ (none_both _ _ h).0
 
 -- a variable's size, and no more data than that
-variable_right : (i j : ℕ) (v : VariableEntry) → variable_limits i j v ≡ [] → (1 ≤ natural v.size) × (length (items v.data) ≤ natural v.size)
+pub variable_right : (i j : ℕ) (v : VariableEntry) → variable_limits i j v ≡ [] → (1 ≤ natural v.size) × (length (items v.data) ≤ natural v.size)
 unfolding variable_limits
 variable_right i j v h =
     let t = none_both _ _ h in
@@ -105,7 +105,7 @@ variable_right i j v h =
     rw s.1 (s.2, few)
 
 -- bytes with a variable's data behind them end where the variable ends
-data_ends : (bytes : List ℕ) (e : ℕ) (v : VariableEntry) (given : Option (List ℕ)) → length bytes ≤ e → length (items given) ≤ natural v.size
+pub data_ends : (bytes : List ℕ) (e : ℕ) (v : VariableEntry) (given : Option (List ℕ)) → length bytes ≤ e → length (items given) ≤ natural v.size
     → length (with_data bytes (offset_of e v) given) ≤ end_of e v
 data_ends bytes e v None few short = omega (arith, few)
 data_ends bytes e v (Some xs) few short =
@@ -135,9 +135,9 @@ unfolding contents_limits
 packed_right i vs h =
     let t = none_three _ _ _ h in
     let some : nat_lt (length vs) 1 ≡ false = (neither_told (int_lt (pos (length vs)) (pos 1)) (int_lt (pos 32) (pos (length vs))) _ _ t.0).0 in
-    let low = some_end i vs some t.1 in
-    let high : size_of vs ≤ AREA_ENTRY = no_longer Key.Size AREA_ENTRY _ (size_of vs) t.2 in
-    let ends = bytes_end i 0 0 [] vs t.1 (omega arith) in
+    let low = some_end i vs some t.2 in
+    let high : size_of vs ≤ AREA_ENTRY = no_longer Key.Size AREA_ENTRY _ (size_of vs) t.1 in
+    let ends = bytes_end i 0 0 [] vs t.2 (omega arith) in
     (omega (arith, low), high, omega (arith, high, ends))
 
 few_in : (n most : ℕ) → most ≤ AREA_ENTRY → n ≤ most → n ≤ clamped (pos most)

@@ -1,6 +1,7 @@
 pub mod Names
 pub mod Numbers
 pub mod Packing
+pub mod Packed
 pub mod Spots
 pub mod Duplicates
 pub mod Unknown

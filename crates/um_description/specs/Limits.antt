@@ -46,15 +46,15 @@ variable_limits i j v =
     outside Key.Size (pos 1) (pos AREA_ENTRY) (Place.Variable i j Key.Size) v.size
     ++ longer Key.Data v.size (Place.Variable i j Key.Data) (length (items v.data))
 
--- so has a partition; one that is packed has 1 to 32 variables, and they end within the greatest size
+-- so has a partition; one that is packed has 1 to 32 variables, and they end within the greatest size: both stand before what is inside them
 unfoldable pub contents_limits : ℕ → PartitionContents → List Flaw
 contents_limits i (PartitionContents.Whole size bytes) =
     outside Key.Size (pos 1) (pos AREA_ENTRY) (Place.Field Section.Partition i Key.Size) size
     ++ longer Key.Data size (Place.Field Section.Partition i Key.Data) (length bytes)
 contents_limits i (PartitionContents.Variables vs) =
     outside Key.Vars (pos 1) (pos 32) (Place.Field Section.PackedPartition i Key.Vars) (pos (length vs))
-    ++ each (variable_limits i) 0 vs
     ++ longer Key.Size (pos AREA_ENTRY) (Place.Field Section.PackedPartition i Key.Vars) (size_of vs)
+    ++ each (variable_limits i) 0 vs
 
 unfoldable pub partition_limits : ℕ → PartitionEntry → List Flaw
 partition_limits i p = one_too_many Section.Partition PARTITIONS i ++ contents_limits i p.contents

@@ -1,10 +1,10 @@
 //! The kinds of flaws in their order, and what a description means.
 
-ghost use Rattle.std.specs.Prelude.{◌≡◌, IfOk, List};
-ghost use Rattle.um_document.specs.{declared.description.VariableEntry.{VariableEntry}, First.{first_of}};
+ghost use Rattle.std.specs.Prelude.{◌≡◌, IfOk};
+ghost use Rattle.um_document.specs.First.{first_of};
 ghost use Rattle.um_description.specs.Flaws as spec;
 ghost use Rattle.um_description.specs.Kinds as kinds;
-ghost use Rattle.um_description.specs.Packing.{ArePacked, offsets};
+ghost use Rattle.um_description.specs.Packed.{HaveVariables};
 
 use crate::blocks::first_block;
 use crate::duplicates::first_duplicate;
@@ -57,12 +57,12 @@ fn first_in_lines(
     Ok(None)
 }
 
-/// The image that a description gives, or the first of its flaws. Variables are packed into their partition: apart, in
-/// their order, each at a multiple of its alignment, and none could stand lower.
-#[tactic(auto, using(crate::proofs::PackingLemmas::packed_law))]
+/// The image that a description gives, or the first of its flaws. Its partitions have their variables packed: apart, in
+/// their order, each at a multiple of its alignment, and none could stand lower. Each ends within its partition's range, and has
+/// its data at its offset.
 pub fn meaning(alloc: Global, d: &Description) -> Result<Result<Image, Flaw>, OutOfMemory>
     ensures value { IfOk result (λ r. r ≡ spec.meaning d.now) }
-    ensures packed { (variables : List VariableEntry) → ArePacked 0 variables (offsets variables) }
+    ensures packed { IfOk result (λ r. IfOk r (λ image. HaveVariables image.partitions d.now.partitions)) }
 {
     if let Some(flaw) = first_in_entries(alloc, d)? {
         return Ok(Err(flaw));

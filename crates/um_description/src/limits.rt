@@ -158,13 +158,13 @@ fn packed_limit(i: usize, variables: &[VariableEntry]) -> Option<Flaw>
 {
     let place = Place::Field(Section::PackedPartition, i, Key::Vars);
     some_items(Key::Vars, MOST_VARIABLES, place, variables.len())
-        .or(variable_limits(i, variables))
         .or(longer(
             Key::Size,
             AREA_ENTRY as i64,
             place,
             packed_size(variables) as usize,
         ))
+        .or(variable_limits(i, variables))
 }
 
 fn contents_limit(i: usize, contents: &PartitionContents) -> Option<Flaw>

@@ -10,6 +10,7 @@ ghost use Rattle.um_machine.specs.{Run.{Runs, opening}, State.{State}};
 ghost use Rattle.um_words.specs.History.{by_seat};
 ghost use Rattle.um_invariants.specs.Described.{IsDescribed};
 ghost use Rattle.um_fine.specs.{Erasure.{shown}, FineRun.{IsFineRun}, Steps.{FineStep}};
+ghost use Rattle.um_fine.specs.FineRun as fine_run;
 ghost use Rattle.um_merge.specs.{
   Logs.{Log, events_of},
   Merged.{HaveOrder, IsOrder, SameOrder},
@@ -79,6 +80,7 @@ pub fn every_board()
 /// - Take a list of steps that orders each processor's and each site's steps as every order of the logs does. It is what the logs note of a
 ///   fine run of these processors' steps, which leaves each site as the board has it, and the run's events are a run of the access-matrix
 ///   machine.
+/// - A list of steps in the order of a fine run, by processors and by sites, is one itself, of whatever image and processors.
 /// - If each processor saw after its last step that no thread is ready or runs, and that no mark is owed, then none can make another step: each
 ///   fine run of their steps is over, and the events of such a list are a complete run.
 pub fn every_played_board()
@@ -94,6 +96,8 @@ pub fn every_played_board()
         → ((order : List Logged) → IsOrder logs order → SameOrder list order)
         → (g : List FineStep) × (map logged_of g ≡ list) × IsFineOf image cpus words steps g
         × AreRun image (events_of list) × AreLeft image words slots g }
+    ensures same { (image : Image) (cpus : ℕ) (g h : List FineStep) → fine_run.SameOrder g h
+        → IsFineRun image cpus g → IsFineRun image cpus h }
     ensures over { (image : Image) (cpus : ℕ) (v : View) (words : List ℕ) (slots : List (Option Known))
         (logs : List Log) (steps : ℕ → List FineStep) → IsDescribed image → CanRun image cpus
         → IsPlayed image cpus v words slots logs steps → ((k : ℕ) → k < cpus → SawQuiet v.got (steps k))

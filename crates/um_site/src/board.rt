@@ -1,7 +1,7 @@
 //! The board.
 
 ghost use Rattle.std.specs.{
-  Prelude.{◌≡◌, ◌≢◌, ℕ, ◌+◌, ◌%◌, ◌<◌, ◌≤◌, ◌^◌, true, false, [], length, slice_index, IfOk, IfErr, ◌⊎◌, MatchResult, Option, Some, None},
+  Prelude.{◌≡◌, ◌≢◌, ℕ, ◌+◌, ◌%◌, ◌<◌, ◌≤◌, ◌^◌, true, false, [], length, max, slice_index, IfOk, IfErr, ◌⊎◌, MatchResult, Option, Some, None},
   Mem.Slots.{slots_items, slots_len, IsFull},
 };
 ghost use Rattle.um_words.specs.Steps.{number, WordMay};
@@ -44,7 +44,8 @@ pub struct Changed {
 pub struct StillOut<T: Content, L: Local> {
     pub board: Board<T, L>,
     pub seat: Seat<T>,
-    /// The number of seats that aren't joined, or 1 if the seat isn't the first.
+    /// How many seats the seat, and those that it joined, have split off that aren't joined; at least 1, as a seat that isn't the first
+    /// isn't joined itself.
     pub seats: u32,
 }
 
@@ -235,6 +236,7 @@ impl<T: Content, L: Local> Board<T, L> {
         ensures back { IfErr result (λ e. (e.board ≡ self) × (e.seat ≡ seat)) }
         ensures out { IfErr result
             (λ e. (0 < e.seats) × ((seat.first ≡ false) ⊎ (seat.split ≢ seat.joined))) }
+        ensures seats { IfErr result (λ e. e.seats ≡ max 1 (length seat.token.me.0.children)) }
         ensures all_in { IfOk result (λ c. (seat.first ≡ true) × (seat.split ≡ seat.joined)) }
     {
         if !seat.first || seat.split != seat.joined {

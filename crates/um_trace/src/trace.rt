@@ -16,6 +16,7 @@ use um_base::{Act, Event, Image};
 use um_steps::Dumped;
 
 /// How many threads an act wakes.
+#[inline(always)]
 pub fn woken_by(act: &Act) -> usize
     ensures value { result ≡ woken_by act.now }
     ensures few { result ≤ THREADS }

@@ -193,7 +193,7 @@ const PACKED_ANSWERS: [(&str, &str, &str); 11] = [
     (
         "size = 1}",
         "size = 70000}",
-        "Limit size 65536 partition[0].vars[0].size",
+        "Limit size 65536 partition[0].vars",
     ),
     ("@y", "@z", "LineName script[0].lines[0]:9"),
 ];

@@ -1,8 +1,9 @@
 //! The first fine step of a thread's next step.
 
-ghost use Rattle.std.specs.Prelude.{◌≡◌, ◌<◌, ◌∷◌, [], false, if◌then◌else◌, ◌==◌, is_some, IfSome, MatchOption, drop};
+ghost use Rattle.std.specs.Prelude.{◌≡◌, ◌<◌, ◌∷◌, [], false, true, if◌then◌else◌, ◌==◌, is_some, IfSome, MatchOption, drop};
+ghost use Rattle.um_base.specs.declared.image.Image.{Image};
 ghost use Rattle.um_base.specs.declared.limits.TheConstants.{ROWS};
-ghost use Rattle.um_fine.specs.{Addresses.{row_named}, Continues.{newborn}, Places.{armed_for, but}};
+ghost use Rattle.um_fine.specs.{Addresses.{row_named}, Context.{Context}, Continues.{newborn}, Places.{armed_for, but}};
 ghost use Rattle.um_machine.specs.Limits.{IsSound};
 ghost use Rattle.um_machine.specs.declared.pending.Pending.TheVariants as Pending;
 ghost use Rattle.um_processor.specs.declared.phase.Phase.TheVariants as Phase;
@@ -107,18 +108,40 @@ pub fn own_phase(phase: Phase) -> Phase
     if is_own(phase) { phase } else { Phase::Park }
 }
 
-/// By its kind alone, whether no visits come before a step, and its fine steps name no queue, no new thread, no cell and no mark.
+/// The first phase of a direct step, by its kind alone: no visits come before it, and its fine steps name no queue, no new thread, no cell
+/// and no mark. `None` for any other step.
 #[inline(always)]
-fn is_direct(step: &Pending) -> bool
-    ensures { result ≡ is_direct step.now }
+fn direct_phase(step: &Pending) -> Option<Phase>
+    ensures { MatchOption result (is_direct step.now ≡ false)
+        (λ phase. (is_direct step.now ≡ true)
+        × ((image : Image) (c : Context) → first_phase image c step.now Pending.Resume ≡ phase)) }
 {
     match step {
-        Pending::Work { .. } => false,
-        Pending::Arm { .. } | Pending::Join { .. } | Pending::FutexWait { .. } => false,
-        Pending::ClearInit { .. } => false,
-        Pending::Resume | Pending::Inherit { .. } | Pending::Drops { .. } => false,
-        Pending::Probe { .. } | Pending::CopyIn { .. } | Pending::Start { .. } => false,
-        _ => true,
+        Pending::Work { .. } | Pending::ClearInit { .. } => None,
+        Pending::Arm { .. } | Pending::Join { .. } | Pending::FutexWait { .. } => None,
+        Pending::Resume | Pending::Inherit { .. } | Pending::Drops { .. } => None,
+        Pending::Probe { .. } | Pending::CopyIn { .. } | Pending::Start { .. } => None,
+        Pending::ArmTimer { .. } => Some(Phase::Owe),
+        Pending::FutexWake { .. } => Some(Phase::Hold),
+        Pending::Load { .. } | Pending::Store { .. } | Pending::Fetch { .. } => Some(Phase::Hold),
+        Pending::CopyOut { .. } | Pending::CopyStr { .. } => Some(Phase::Hold),
+        Pending::DomInit { .. } | Pending::DomAdd { .. } => Some(Phase::WriteClaim),
+        Pending::DomRemove { .. } => Some(Phase::WriteClaim),
+        Pending::DomMove { .. } => Some(Phase::MoveClaim),
+        Pending::Abort { .. } | Pending::Suspend { .. } => Some(Phase::Show),
+        Pending::Continue { .. } | Pending::Killed | Pending::Left => Some(Phase::Show),
+        Pending::Tick | Pending::TimeOut { .. } | Pending::Expire => Some(Phase::Show),
+        Pending::Cut { .. } | Pending::Erase { .. } => Some(Phase::Show),
+        Pending::Begin | Pending::Exit | Pending::Check { .. } => Some(Phase::Show),
+        Pending::Answer { .. } | Pending::Grant { .. } | Pending::Own { .. } => Some(Phase::Show),
+        Pending::DropPair { .. } | Pending::Publish { .. } => Some(Phase::Show),
+        Pending::SetInit { .. } | Pending::Named { .. } => Some(Phase::Show),
+        Pending::Reserve { .. } | Pending::Born { .. } | Pending::Buffer { .. } => Some(
+            Phase::Show,
+        ),
+        Pending::Unbuffer { .. } | Pending::EnterUser { .. } => Some(Phase::Show),
+        Pending::Fatal { .. } | Pending::Dooms { .. } => Some(Phase::Show),
+        Pending::CleanPair { .. } | Pending::Recycle => Some(Phase::Show),
     }
 }
 
@@ -294,12 +317,24 @@ impl Running {
     pub fn expands(&mut self, image: &Image)
         ensures { processor_of self.new ≡ refilled image.now self.old }
     {
-        match self.context.first() {
-            Some(step) if is_direct(&step) => {
+        let Some(step) = self.context.first() else {
+            return self.ends_turn();
+        };
+        match direct_phase(&step) {
+            Some(phase) => {
                 self.visited = false;
-                self.phase = first_phase(image, &self.context, &step, &Pending::Resume);
+                self.phase = phase;
             }
-            None => self.ends_turn(),
+            None => self.expands_other(image),
+        }
+    }
+
+    /// The same for a step that isn't direct.
+    #[inline(always)]
+    fn expands_other(&mut self, image: &Image)
+        ensures { processor_of self.new ≡ refilled image.now self.old }
+    {
+        match self.context.first() {
             Some(Pending::Work { .. }) => self.expands_work(image),
             _ => self.expands_far(image),
         }

@@ -19,7 +19,7 @@ const BLOCKS: usize = AREA_SIZE as usize / BLOCK;
 const PAGE: usize = 32;
 
 /// How many bytes are looked at together.
-const CHUNK: usize = 64;
+const CHUNK: usize = 1024;
 
 /// Whether all bytes of a chunk are zero. It looks at all of them, whatever it finds, so that they can be taken many at a time.
 fn is_zero(chunk: &[u8; CHUNK]) -> bool

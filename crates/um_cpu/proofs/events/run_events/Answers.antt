@@ -85,3 +85,10 @@ returns-clause-few g c =
     let most = c.longest_fine_run.ensures image c.args.cpus board.0 is.0 is.1.few board.1.run in
     let same = ap length board.2 in
     omega (arith, few, most, same)
+
+pub returns-clause-laws : goal.returns-clause-laws
+returns-clause-laws g c =
+    let image = c.args.image.now in
+    let is = runs-on image c.args.cpus c.requires.lawful c.len-objects.ensures.value c.len-objects.ensures.few c.len-domains.ensures.value c.len-domains.ensures.few c.requires.some c.requires.few in
+    let last = returns-clause-run g c in
+    c.every_run.ensures.obeys image _ last.0 is.0 last.1

@@ -1,5 +1,6 @@
 use Rattle.std.proofs.Common.{sym, rules, ◌∙◌}
 use Rattle.um_description.proofs.KindLemmas.{entries_in_limits, entry_means, line_means, image_told}
+use Rattle.um_description.proofs.PackedLemmas.{told_has}
 use Rattle.um_description.proofs.kinds.meaning.Goals as goal
 
 pub image_or_flaw-requires : goal.image_or_flaw-requires
@@ -17,3 +18,6 @@ returns-in-Some-2-clause-value c = line_means c.args.d.now (sym c.in_default.is 
 pub returns-clause-value : goal.returns-clause-value
 returns-clause-value c =
     image_told c.args.d.now c.image_or_flaw.result (sym c.in_default.is ∙ c.in_ok-flaw.ensures) (sym c.in_default-2.is ∙ c.in_ok-flaw-2.ensures) c.image_or_flaw.ensures
+
+pub returns-clause-packed : goal.returns-clause-packed
+returns-clause-packed c = told_has c.args.d.now c.image_or_flaw.result (sym c.in_default.is ∙ c.in_ok-flaw.ensures) c.image_or_flaw.ensures

@@ -3,6 +3,7 @@ use Rattle.um_fine.specs.FineRun.{IsFineRun}
 use Rattle.um_fine.specs.Steps.{FineStep}
 use Rattle.um_history.proofs.Completed.{complete, fine, g, have-order, noted-run, over}
 use Rattle.um_history.proofs.Openings.{opens-well}
+use Rattle.um_history.proofs.Ordered.{fine-same}
 use Rattle.um_history.proofs.laws.every_played_board.Goals as goal
 
 pub returns-clause-fine : goal.returns-clause-fine
@@ -19,6 +20,9 @@ pub returns-clause-run : goal.returns-clause-run
 returns-clause-run c = λ image cpus v words slots logs steps described can played list same.
     noted-run image cpus v words slots logs steps described can (opens-well image cpus described can) played (λ run fine. c.longest_fine_run.ensures image cpus run described can.few fine)
     (λ run fine. let last = c.every_fine_run.ensures.run image cpus run described fine in (last.0, last.1)) list same
+
+pub returns-clause-same : goal.returns-clause-same
+returns-clause-same c = λ image cpus g h same run. fine-same image cpus g h same run
 
 pub returns-clause-over : goal.returns-clause-over
 returns-clause-over c = λ image cpus v words slots logs steps described can played saw h of.

@@ -8,19 +8,19 @@ use Rattle.um_trace.proofs.dump.memory.are_zero.Goals as goal
 pub returns-then-not-is_zero : goal.returns-then-not-is_zero
 returns-then-not-is_zero c =
     let bytes = c.args.bytes.now in
-    let k = length bytes / 64 in
+    let k = length bytes / 1024 in
     let i = c.chunks.chunk-index in
     let less : i < k = (let t = c.chunks-test.true in let l = c.as_chunks.ensures.front_len in omega (arith, t, l)) in
-    let chunk : list_all (λ (b : ℕ). b == 0) (slice_index_or (first_chunks 64 k bytes) i []) ≡ false =
+    let chunk : list_all (λ (b : ℕ). b == 0) (slice_index_or (first_chunks 1024 k bytes) i []) ≡ false =
     ap (λ (l : List (List ℕ)). list_all (λ (b : ℕ). b == 0) (slice_index_or l i [])) (sym c.as_chunks.ensures.front) ∙ sym c.is_zero.ensures ∙ c.if-not-is_zero.true in
-    sym (c.chunks.invariant ∙ zero-chunk 64 k bytes i less ∙ ap (λ (b : Bool). b && list_all (λ (b : ℕ). b == 0) (drop ((i + 1) * 64) bytes)) chunk)
+    sym (c.chunks.invariant ∙ zero-chunk 1024 k bytes i less ∙ ap (λ (b : Bool). b && list_all (λ (b : ℕ). b == 0) (drop ((i + 1) * 1024) bytes)) chunk)
 
 pub chunks-preserved : goal.chunks-preserved
 chunks-preserved c =
     let bytes = c.args.bytes.now in
-    let k = length bytes / 64 in
+    let k = length bytes / 1024 in
     let i = c.chunks.chunk-index in
     let less : i < k = (let t = c.chunks-test.true in let l = c.as_chunks.ensures.front_len in omega (arith, t, l)) in
-    let chunk : list_all (λ (b : ℕ). b == 0) (slice_index_or (first_chunks 64 k bytes) i []) ≡ true =
+    let chunk : list_all (λ (b : ℕ). b == 0) (slice_index_or (first_chunks 1024 k bytes) i []) ≡ true =
     ap (λ (l : List (List ℕ)). list_all (λ (b : ℕ). b == 0) (slice_index_or l i [])) (sym c.as_chunks.ensures.front) ∙ sym c.is_zero.ensures ∙ c.if-not-is_zero.false in
-    c.chunks.invariant ∙ zero-chunk 64 k bytes i less ∙ ap (λ (b : Bool). b && list_all (λ (b : ℕ). b == 0) (drop ((i + 1) * 64) bytes)) chunk
+    c.chunks.invariant ∙ zero-chunk 1024 k bytes i less ∙ ap (λ (b : Bool). b && list_all (λ (b : ℕ). b == 0) (drop ((i + 1) * 1024) bytes)) chunk

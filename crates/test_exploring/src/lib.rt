@@ -1,0 +1,5 @@
+//! Questions about all runs, asked of described images.
+#![tactic(auto)]
+
+#[cfg(test)]
+mod tests;
