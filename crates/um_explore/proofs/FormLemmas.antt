@@ -2,7 +2,8 @@
 use Rattle.std.proofs.Common.{◌≡◌, ◌≢◌, ℕ, zero, suc, ◌+◌, ◌<◌, ◌≤◌, Bool, true, false, List, [], ◌∷◌, length, take, drop, refl, sym, ap, ◌∙◌, add-one, arith, get_or, if◌then◌else◌}
 use Rattle.std.specs.Prelude.{◌==◌, not}
 use Rattle.std.proofs.lemmas.Bool.Decides.{nat_tests}
-use Rattle.um_explore.specs.Forms.{IsFirstWord, are_words, fits, is_word, led, words}
+use Rattle.um_audit.specs.Lines.{led}
+use Rattle.um_explore.specs.Forms.{IsFirstWord, are_words, fits, is_word, words}
 
 -- a byte that is neither a space nor a newline
 abbrev pub IsPlain : ℕ → Type 0

@@ -1,10 +1,6 @@
 -- Forms of lines: words, in which `*` stands for any word.
 use Rattle.std.specs.Prelude.{◌≡◌, ◌<◌, ℕ, Bool, true, false, ◌==◌, ◌&&◌, ◌||◌, if◌then◌else◌, List, [], ◌∷◌, length, bytes_eq, codes}
-
--- a byte put in front of the first of some words
-abbrev pub led : ℕ → List (List ℕ) → List (List ℕ)
-led b [] = (b ∷ []) ∷ []
-led b (word ∷ more) = (b ∷ word) ∷ more
+use Rattle.um_audit.specs.Lines.{led}
 
 -- the words of a line, between single spaces, up to its newline
 unfoldable pub words : List ℕ → List (List ℕ)

@@ -31,8 +31,8 @@ ghost use Rattle.um_base.specs.declared.limits.TheConstants.{
 };
 
 /// Each limit is this number:
-/// - 28 static thread objects among 32 thread indices, each of the 28 ready from the beginning where a description says so;
-/// - 96 static objects among 128 rows, and a cell behind these for joins and one for futexes;
+/// - 32 thread indices, of which static thread objects have at most 28, and at most 28 threads that are ready from the beginning;
+/// - 128 rows, of which static objects have at most 96; behind the cells of the rows, one for joins and one for futexes;
 /// - at most 8 domains of 16 partitions, 32 partitions, 4 pools, 32 scripts of 1,000 lines, 16 futexes;
 /// - 65,536 bytes of a partition, a stack and read-only data, 256 of a message or a name;
 /// - a weight of 400,000;
