@@ -1,7 +1,7 @@
 //! The objects of all rows.
 
 ghost use Rattle.std.specs.{
-  Prelude.{◌≡◌, ◌<◌, ◌≤◌, ◌-◌, ◌++◌, IfOk, length, replicate, slice_index_or, vec_len, vec_capacity},
+  Prelude.{◌≡◌, ◌<◌, ◌≤◌, ◌-◌, ◌++◌, IfOk, length, replicate, slice_index_or, slice_set, IsTrue, vec_len, vec_capacity},
   Borrow.{sem},
 };
 ghost use Rattle.um_base.specs.Lawful.{IsLawful};
@@ -105,6 +105,49 @@ impl ObjectTable {
         match kept {
             Some(object) => object,
             None => &self.blank[0],
+        }
+    }
+
+    /// How many rows there are.
+    #[tactic(auto, using(crate::proofs::TableLemmas::rows_long))]
+    fn count(&self) -> usize
+        ensures value { result ≡ length self.now }
+        ensures all { result ≡ ROWS }
+    {
+        let _statics = self.statics.len();
+        ROWS
+    }
+
+    /// Whether two tables have the same objects.
+    pub fn is_same(&self, other: &ObjectTable) -> bool
+        ensures { IsTrue result → self.now ≡ other.now }
+    {
+        let _rows = (self.count(), other.count());
+        for x in 0..ROWS {
+            if !self.row(x).is_same(other.row(x)) {
+                return false;
+            }
+        }
+        true
+    }
+
+    /// Takes over the objects of another table. It takes no memory.
+    pub fn set_to(&mut self, other: &ObjectTable)
+        ensures { self.new ≡ other.now }
+    {
+        let _rows = (self.count(), other.count());
+        for x in 0..ROWS {
+            self.take_row(x, other.row(x));
+        }
+    }
+
+    /// Takes over the object of a row, where it isn't the same already.
+    fn take_row(&mut self, x: usize, object: &Object)
+        requires { x < ROWS }
+        ensures { self.new ≡ slice_set self.old x object.now }
+    {
+        if !self.row(x).is_same(object) {
+            *self.row_mut(x) = object.copy();
         }
     }
 
