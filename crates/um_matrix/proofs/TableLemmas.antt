@@ -1,7 +1,6 @@
 -- The rows of a table.
-use Rattle.std.proofs.Common.{◌≡◌, ◌+◌, ◌-◌, ◌<◌, ◌≤◌, ◌++◌, ◌∙◌, ℕ, List, [], ◌∷◌, ap, inl, inr, length, length-append, replicate, slice_index_or, slice_set, arith}
-use Rattle.std.proofs.lemmas.Bool.{cases_lt}
-use Rattle.std.proofs.lemmas.List.{get_or_default, get_or-set_other, get_or-set_same, same_lists, set_at}
+use Rattle.std.proofs.Common.{◌≡◌, ◌+◌, ◌-◌, ◌<◌, ◌≤◌, ◌++◌, ◌∙◌, ℕ, List, [], ◌∷◌, ap, length, length-append, replicate, slice_index_or, slice_set, arith}
+use Rattle.std.proofs.lemmas.List.{get_or_default, same_lists, set_at}
 use Rattle.um_steps.specs.Padded.{padded}
 use Rattle.um_steps.proofs.PaddedLemmas.{length-padded}
 use Rattle.um_machine.specs.declared.object.Object.{Object}
@@ -23,12 +22,3 @@ rows_long statics dynamics few few2 =
 -- tables that are the same row by row
 pub same_rows : (xs ys : List Object) → length xs ≡ length ys → ((j : ℕ) → j < length xs → slice_index_or xs j vacant ≡ slice_index_or ys j vacant) → xs ≡ ys
 same_rows xs ys long each = same_lists xs ys long (λ k d below. get_or_default xs k d vacant below ∙ each k below ∙ get_or_default ys k vacant d (omega (arith, below, long)))
-
--- one row more is the same
-pub row_taken : (xs ys : List Object) (x : ℕ) (o : Object) → x < length xs → o ≡ slice_index_or ys x vacant → ((j : ℕ) → j < x → slice_index_or xs j vacant ≡ slice_index_or ys j vacant)
-    → (j : ℕ) → j < x + 1 → slice_index_or (slice_set xs x o) j vacant ≡ slice_index_or ys j vacant
-row_taken xs ys x o within is each j less =
-    elim (cases_lt j x) [
-      | inl before ↦ get_or-set_other xs x j o vacant (omega (arith, before)) ∙ each j before
-      | inr past ↦ (let here : j ≡ x = omega (arith, less, past) in rw here (get_or-set_same xs x o vacant within ∙ is))
-    ]

@@ -72,6 +72,41 @@ fn fill(rows: &mut Vec<Object>, n: usize)
     }
 }
 
+/// Whether two lists of equally many objects are the same.
+fn same_objects(a: &[Object], b: &[Object]) -> bool
+    requires { length a.now ≡ length b.now }
+    ensures { IsTrue result → a.now ≡ b.now }
+{
+    for x in 0..a.len() {
+        if !a[x].is_same(&b[x]) {
+            return false;
+        }
+    }
+    true
+}
+
+/// Takes over an object, where it isn't the same already.
+fn take_object(own: &mut Object, other: &Object)
+    ensures { own.new ≡ other.now }
+{
+    if !own.is_same(other) {
+        *own = other.copy();
+    }
+}
+
+/// Takes over a list of objects, for which there is room.
+fn take_objects(own: &mut Vec<Object>, other: &[Object])
+    requires { length other.now ≤ vec_capacity own.old }
+    ensures items { own.new.items ≡ other.now }
+    ensures room { vec_capacity own.new ≡ vec_capacity own.old }
+{
+    own.truncate(other.len());
+    fill(own, other.len());
+    for x in 0..other.len() {
+        take_object(&mut own[x], &other[x]);
+    }
+}
+
 impl ObjectTable {
     ghost use Rattle.um_matrix.specs.Lending.{LendsRow};
 
@@ -122,6 +157,17 @@ impl ObjectTable {
     pub fn is_same(&self, other: &ObjectTable) -> bool
         ensures { IsTrue result → self.now ≡ other.now }
     {
+        let statics = self.statics.len() == other.statics.len();
+        if !statics || self.dynamics.len() != other.dynamics.len() {
+            return self.has_same_rows(other);
+        }
+        same_objects(&self.statics, &other.statics) && same_objects(&self.dynamics, &other.dynamics)
+    }
+
+    /// Whether two tables have the same object in each row.
+    fn has_same_rows(&self, other: &ObjectTable) -> bool
+        ensures { IsTrue result → self.now ≡ other.now }
+    {
         let _rows = (self.count(), other.count());
         for x in 0..ROWS {
             if !self.row(x).is_same(other.row(x)) {
@@ -135,20 +181,13 @@ impl ObjectTable {
     pub fn set_to(&mut self, other: &ObjectTable)
         ensures { self.new ≡ other.now }
     {
-        let _rows = (self.count(), other.count());
-        for x in 0..ROWS {
-            self.take_row(x, other.row(x));
-        }
+        take_objects(&mut self.statics, &other.statics);
+        take_objects(&mut self.dynamics, &other.dynamics);
     }
 
-    /// Takes over the object of a row, where it isn't the same already.
-    fn take_row(&mut self, x: usize, object: &Object)
-        requires { x < ROWS }
-        ensures { self.new ≡ slice_set self.old x object.now }
-    {
-        if !self.row(x).is_same(object) {
-            *self.row_mut(x) = object.copy();
-        }
+    /// The objects that were ever written, of the static rows and of the dynamic ones.
+    pub(crate) fn written(&self) -> (&[Object], &[Object]) {
+        (self.statics.as_slice(), self.dynamics.as_slice())
     }
 
     /// The object of a row, to change it. It takes no memory.

@@ -1,7 +1,7 @@
 //! Digests of states: the same states have the same one. Different states may have it too, so nothing that is promised rests on it.
 
 use crate::tables::Tables;
-use um_base::{ROWS, Reply, ThreadIx};
+use um_base::{Reply, STATIC_ROWS, THREADS, ThreadIx};
 use um_machine::{Contents, Life, Object, Status, Thread, Waiters};
 
 /// Mixes a number into a digest.
@@ -70,7 +70,8 @@ fn mix_waiters(digest: u64, waiters: &Waiters) -> u64 {
     mixed
 }
 
-/// Mixes what a call of a thread has worked out into a digest.
+/// Mixes what a call of a thread has worked out into a digest. The rows that it has checked, or has still to drop, are left out: they follow
+/// mostly from the steps that are left.
 fn mix_call(digest: u64, thread: &Thread) -> u64 {
     let mut mixed = mix(digest, thread.pending.len() as u64);
     for register in &thread.registers {
@@ -78,9 +79,7 @@ fn mix_call(digest: u64, thread: &Thread) -> u64 {
     }
     mixed = mix(mixed, reply_number(thread.reply));
     mixed = mix_bytes(mixed, thread.buffer.as_slice());
-    mixed = mix_marks(mixed, &thread.checked);
-    mixed = mix(mixed, thread_number(thread.child));
-    mix_marks(mixed, &thread.due)
+    mix(mixed, thread_number(thread.child))
 }
 
 /// Mixes a thread into a digest.
@@ -146,6 +145,21 @@ fn mix_object(digest: u64, object: &Object) -> u64 {
     mix_contents(mixed, &object.contents)
 }
 
+/// Mixes objects and who has pairs with them into a digest, from a row on.
+fn mix_objects(digest: u64, objects: &[Object], pairs: &[[bool; THREADS]], row: usize) -> u64 {
+    let mut mixed = digest;
+    for (x, object) in objects.iter().enumerate() {
+        if object.status != Status::Free {
+            mixed = mix_object(mix(mixed, x as u64), object);
+            match pairs.get(row.saturating_add(x)) {
+                Some(holders) => mixed = mix_marks(mixed, holders),
+                None => {}
+            }
+        }
+    }
+    mixed
+}
+
 impl<'a> Tables<'a> {
     /// A number that the same states have in common.
     pub(crate) fn digest(&self) -> u64 {
@@ -156,16 +170,9 @@ impl<'a> Tables<'a> {
             }
             digest = mix(digest, 1);
         }
-        for x in 0..ROWS {
-            let object = self.objects.row(x);
-            if object.status != Status::Free {
-                digest = mix_object(digest, object);
-            }
-            digest = mix(digest, 2);
-        }
-        for holders in &self.pairs {
-            digest = mix_marks(digest.rotate_left(1), holders);
-        }
+        let (statics, dynamics) = self.objects.written();
+        digest = mix_objects(digest, statics, &self.pairs, 0);
+        digest = mix_objects(digest, dynamics, &self.pairs, STATIC_ROWS);
         digest = mix_waiters(digest, &self.joins);
         digest = mix_waiters(digest, &self.futexes);
         digest = mix_bytes(digest, self.memory.used());

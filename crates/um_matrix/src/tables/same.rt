@@ -5,7 +5,7 @@ ghost use Rattle.std.specs.Prelude.{◌≡◌, ◌≤◌, IfOk, IsTrue, OnErr, O
 use crate::tables::Tables;
 use std::alloc::Global;
 use um_base::{OutOfMemory, Parts, THREADS};
-use um_machine::Thread;
+use um_machine::{Thread, Waiters};
 
 /// Whether two lists of equally many threads are the same.
 fn same_threads(a: &[Thread], b: &[Thread]) -> bool
@@ -36,6 +36,15 @@ fn take_threads(own: &mut [Thread], other: &[Thread])
 {
     for t in 0..other.len() {
         take_thread(&mut own[t], &other[t]);
+    }
+}
+
+/// Takes over those who wait, where they aren't the same already.
+fn take_waiters(own: &mut Waiters, other: &Waiters)
+    ensures { own.new ≡ other.now }
+{
+    if !own.is_same(other) {
+        *own = other.copy();
     }
 }
 
@@ -114,8 +123,8 @@ impl<'a> Tables<'a> {
         self.memory.set_to(&other.memory);
         self.stacks.set_to(&other.stacks);
         self.clock.set_to(&other.clock);
-        self.joins = other.joins.copy();
-        self.futexes = other.futexes.copy();
+        take_waiters(&mut self.joins, &other.joins);
+        take_waiters(&mut self.futexes, &other.futexes);
         Ok(())
     }
 

@@ -1,6 +1,6 @@
 use Rattle.std.proofs.Common.{arith}
 use Rattle.um_matrix.proofs.TableLemmas.{same_rows}
-use Rattle.um_matrix.proofs.object_table.ObjectTable.is_same.Goals as goal
+use Rattle.um_matrix.proofs.object_table.ObjectTable.has_same_rows.Goals as goal
 
 pub returns : goal.returns
 returns c h =

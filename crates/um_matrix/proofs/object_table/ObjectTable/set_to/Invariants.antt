@@ -1,9 +1,0 @@
-use Rattle.std.proofs.Common.{◌≡◌, ◌<◌, ℕ, length, slice_index_or}
-use Rattle.um_machine.specs.State.{vacant}
-use Rattle.um_matrix.proofs.object_table.ObjectTable.set_to.Given as goal
-
-abbrev pub invariant-loop-x : goal.invariant-loop-x
-invariant-loop-x l = record {
-  long : length l.self ≡ length l.fn.self;
-  same : (j : ℕ) → j < l.x → slice_index_or l.self j vacant ≡ slice_index_or l.other j vacant;
-}
