@@ -26,7 +26,7 @@ use um_question::{Question, meets};
 use um_trace::{LINE_ROOM, text_room, trace_text};
 
 /// How many buckets a search has at most for the states that it met.
-pub(crate) const MOST_BUCKETS: usize = 1_048_576;
+pub(crate) const MOST_BUCKETS: usize = 131_072;
 
 /// Goes on with a run until it is complete, if it comes to its end within so many steps, and says whether it did.
 fn finish(state: &mut Matrix, run: &mut Vec<Event>) -> Result<bool, OutOfMemory>
