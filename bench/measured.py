@@ -54,11 +54,11 @@ def ticks(process: int) -> int:
     return int(fields[11]) + int(fields[12])
 
 
-def peak_mib(words: list, source: Path) -> float:
+def peak_mib(words: list, source: Path, program: Path = PROGRAM) -> float:
     """The greatest resident set of a run, which is asked for once the run waits to write its first byte: by then it has all its
     memory. (The usage that a parent is told of a child counts what the child shared with it before it became the program.)"""
     reader, writer = full_pipe()
-    with open(source, "rb") as given, subprocess.Popen([PROGRAM, *words], stdin=given, stdout=writer, stderr=writer) as child:
+    with open(source, "rb") as given, subprocess.Popen([program, *words], stdin=given, stdout=writer, stderr=writer) as child:
         os.close(writer)
         used = -1
         while used != ticks(child.pid):

@@ -1,4 +1,4 @@
-"""The program that tests run, and which of them are wanted."""
+"""The programs that tests run, and which of the tests are wanted."""
 import functools
 import os
 import subprocess
@@ -9,12 +9,12 @@ TOP = Path(__file__).resolve().parent.parent
 
 
 @functools.cache
-def program() -> Path:
-    """The program, by ./zumode: the proved one where it is built of these sources, or else the one without proof, which is made where it
-    isn't there. ZUMODE in the environment names another one."""
-    asked = subprocess.run([TOP / "zumode", "--program"], stdin=subprocess.DEVNULL, stdout=subprocess.PIPE, text=True)
+def program(name: str = "zumode") -> Path:
+    """A program, by its script: the proved one where it is built of these sources, or else the one without proof, which is made where it
+    isn't there. ZUMODE, or EXPLORE, in the environment names another one."""
+    asked = subprocess.run([TOP / name, "--program"], stdin=subprocess.DEVNULL, stdout=subprocess.PIPE, text=True)
     found = Path(asked.stdout.strip() or "no program").resolve()
-    os.environ["ZUMODE"] = str(found)
+    os.environ[name.upper()] = str(found)
     return found
 
 
@@ -23,14 +23,16 @@ def is_wanted(name: str) -> bool:
     return not sys.argv[1:] or any(word in name for word in sys.argv[1:])
 
 
-def is_proved() -> bool:
-    """Whether the program isn't the one without proof."""
-    return program() != TOP / "build" / "unproved"
+def is_proved(name: str = "zumode") -> bool:
+    """Whether a program isn't the one without proof."""
+    return program(name) != TOP / "build" / f"unproved-{name}"
 
 
-def is_built() -> bool:
-    """Whether there is a program. Where it isn't the proved one, this says so."""
-    found = program().is_file()
-    if not is_proved():
-        print("run with a program that isn't proved, which ./prove builds", flush=True)
+def is_built(*names: str) -> bool:
+    """Whether there are these programs: without names, zumode. Where one isn't the proved one, this says so."""
+    found = True
+    for name in names or ["zumode"]:
+        found = program(name).is_file() and found
+        if not is_proved(name):
+            print(f"run with a {name} that isn't proved; ./prove builds the proved one", flush=True)
     return found

@@ -18,6 +18,7 @@ MOST_PICTURE_BYTES = 200_000
 SECONDS = 20
 SHOW_LINE = b"""bind -x '"\\C-t": printf "[%s%s]" "[$READLINE_LINE" "]"'"""
 COMMANDS = ["audit", "gen", "layout", "run", "sim", "summary", "upgrade"]
+QUESTIONS = ["ends", "find", "next"]
 
 
 def validator():
@@ -119,19 +120,21 @@ def examples_point_to_the_schema() -> None:
 
 
 @needs("mandoc")
-def manual_page_is_clean() -> None:
-    ran = subprocess.run(["mandoc", "-T", "lint", "docs/zumode.1"], cwd=TOP, capture_output=True, text=True)
-    same("what mandoc says of docs/zumode.1", (ran.returncode, ran.stdout + ran.stderr), (0, ""))
+def manual_pages_are_clean() -> None:
+    for page in ("docs/zumode.1", "docs/explore.1"):
+        ran = subprocess.run(["mandoc", "-T", "lint", page], cwd=TOP, capture_output=True, text=True)
+        same(f"what mandoc says of {page}", (ran.returncode, ran.stdout + ran.stderr), (0, ""))
 
 
 @needs("mandoc")
-def manual_page_names_commands_and_statuses() -> None:
-    page = subprocess.run(["mandoc", "-T", "ascii", "docs/zumode.1"], cwd=TOP, capture_output=True, text=True).stdout
-    plain = re.sub(r".\x08", "", page)
-    synopsis = plain[plain.index("SYNOPSIS") : plain.index("DESCRIPTION")]
-    same("commands in the synopsis", sorted(set(re.findall(r"zumode (\w+)", synopsis))), COMMANDS)
-    statuses = plain[plain.index("EXIT STATUS") : plain.index("EXAMPLES")]
-    same("statuses", re.findall(r"^ {5}(\d) ", statuses, re.M), list("01234567"))
+def manual_pages_name_commands_and_statuses() -> None:
+    for name, commands, codes in (("zumode", COMMANDS, "01234567"), ("explore", QUESTIONS, "0123456789")):
+        page = subprocess.run(["mandoc", "-T", "ascii", f"docs/{name}.1"], cwd=TOP, capture_output=True, text=True).stdout
+        plain = re.sub(r".\x08", "", page)
+        synopsis = plain[plain.index("SYNOPSIS") : plain.index("DESCRIPTION")]
+        same(f"commands in the synopsis of {name}", sorted(set(re.findall(rf"{name} (\w+)", synopsis))), commands)
+        statuses = plain[plain.index("EXIT STATUS") : plain.index("EXAMPLES")]
+        same(f"statuses of {name}", re.findall(r"^ {5}(\d) ", statuses, re.M), list(codes))
 
 
 def typed_in_bash(line: str) -> str:
@@ -141,7 +144,7 @@ def typed_in_bash(line: str) -> str:
     environment = {**os.environ, "PS1": "", "TERM": "dumb", "HISTFILE": ""}
     with subprocess.Popen(shell, cwd=TOP, stdin=end, stdout=end, stderr=end, start_new_session=True, env=environment) as bash:
         os.close(end)
-        os.write(terminal, b"source completions/zumode.bash; " + SHOW_LINE + b"; echo rea''dy\n")
+        os.write(terminal, b"source completions/zumode.bash; source completions/explore.bash; " + SHOW_LINE + b"; echo rea''dy\n")
         read_until(terminal, "ready\r\n")
         os.write(terminal, f"{line}\t\x14".encode())
         seen = read_until(terminal, "]]")
@@ -162,15 +165,30 @@ def bash_completes_files() -> None:
     for front in ("./zumode sim ", "./zumode sim < ", "./zumode audit --cpus 2 > "):
         same(f"{front}examples/last-b", typed_in_bash(f"{front}examples/last-byte.t"), f"{front}examples/last-byte.toml ")
     same("./zumode sim --c", typed_in_bash("./zumode sim --c"), "./zumode sim --cpus ")
+    for front in ("./explore ends ", "./explore find event ", "./explore next --states 2 "):
+        same(f"{front}examples/last-b", typed_in_bash(f"{front}examples/last-byte.t"), f"{front}examples/last-byte.toml ")
+    same("./explore find exam", typed_in_bash("./explore find exam"), "./explore find exam")
+    same("./explore ends --s", typed_in_bash("./explore ends --s"), "./explore ends --states ")
 
 
-def completed_by_bash(*words: str) -> list:
+def completed_by_bash(*words: str, program: str = "zumode") -> list:
     """What bash completes the last of some words to."""
-    script = 'source completions/zumode.bash; COMP_WORDS=("$@"); COMP_CWORD=$(($# - 1)); _zumode; printf "%s\\n" "${COMPREPLY[@]}"'
+    script = f'source completions/{program}.bash; COMP_WORDS=("$@"); COMP_CWORD=$(($# - 1)); _{program}; printf "%s\\n" "${{COMPREPLY[@]}}"'
     ran = subprocess.run(
-        ["bash", "-c", script, "bash", "zumode", *words], cwd=TOP, capture_output=True, text=True, check=True
+        ["bash", "-c", script, "bash", program, *words], cwd=TOP, capture_output=True, text=True, check=True
     )
     return ran.stdout.split()
+
+
+def bash_completes_questions() -> None:
+    same("explore", completed_by_bash("", program="explore"), QUESTIONS)
+    same("explore ends --", completed_by_bash("ends", "--", program="explore"), ["--states"])
+    same("explore find --", completed_by_bash("find", "--", program="explore"), [])
+    same("explore find event --", completed_by_bash("find", "event", "--", program="explore"), ["--states"])
+    same("explore ends --states", completed_by_bash("ends", "--states", "", program="explore"), [])
+    same("explore ends --states 4 --", completed_by_bash("ends", "--states", "4", "--", program="explore"), [])
+    same("explore next --", completed_by_bash("next", "--", program="explore"), [])
+    same("explore --", completed_by_bash("--", program="explore"), ["--help", "--version"])
 
 
 def bash_completes() -> None:
@@ -186,7 +204,7 @@ def bash_completes() -> None:
 
 
 def completed_by_fish(line: str) -> list:
-    script = f"source completions/zumode.fish; complete -C '{line}'"
+    script = f"source completions/zumode.fish; source completions/explore.fish; complete -C '{line}'"
     ran = subprocess.run(["fish", "--no-config", "-c", script], cwd=TOP, capture_output=True, text=True, check=True)
     return [found.split("\t")[0] for found in ran.stdout.splitlines()]
 
@@ -202,20 +220,27 @@ def fish_completes() -> None:
     same("zumode gen", completed_by_fish("zumode gen "), [])
     first = completed_by_fish("zumode sim examples/last-byte")
     same("zumode sim examples/last-byte", first, ["examples/last-byte.toml", "examples/last-byte.out"])
+    same("explore", sorted(completed_by_fish("explore ")), QUESTIONS)
+    same("explore ends --", completed_by_fish("explore ends --"), ["--states"])
+    same("explore find --", completed_by_fish("explore find --"), [])
+    same("explore find event --", completed_by_fish("explore find event --"), ["--states"])
+    same("explore next --", completed_by_fish("explore next --"), [])
+    same("explore next exa", completed_by_fish("explore next exa"), ["examples/"])
+    same("explore find exa", completed_by_fish("explore find exa"), [])
 
 
 ZSH_CALLS = """
-fpath=($PWD/completions $fpath); autoload -Uz _zumode
+fpath=($PWD/completions $fpath); autoload -Uz _zumode _explore
 _describe() { print -l ${(P)4%%:*}; }
 _arguments() { print -l -- ${${@%%\\[*}%%:*}; }
-words=(zumode "$@"); CURRENT=$#words; _zumode
+words=("$@"); CURRENT=$#words; _$1
 """
 
 
 @needs("zsh")
 def zsh_completes() -> None:
-    def offered(*words: str) -> list:
-        ran = subprocess.run(["zsh", "-f", "-c", ZSH_CALLS, "zsh", *words], cwd=TOP, capture_output=True, text=True)
+    def offered(*words: str, program: str = "zumode") -> list:
+        ran = subprocess.run(["zsh", "-f", "-c", ZSH_CALLS, "zsh", program, *words], cwd=TOP, capture_output=True, text=True)
         same("what zsh says", ran.stderr, "")
         return sorted(ran.stdout.split())
 
@@ -223,6 +248,10 @@ def zsh_completes() -> None:
     same("zumode sim", offered("sim", ""), ["--cpus", "--pick", "1"])
     same("zumode run", offered("run", ""), ["--cpus", "1"])
     same("zumode layout", offered("layout", ""), ["1"])
+    same("explore", offered("", program="explore"), QUESTIONS)
+    same("explore find", offered("find", "", program="explore"), ["--states", "1", "2"])
+    same("explore ends", offered("ends", "", program="explore"), ["--states", "1"])
+    same("explore next", offered("next", "", program="explore"), ["1"])
 
 
 def picture_is_small() -> None:
@@ -241,9 +270,10 @@ TESTS = [
     each_key_is_described,
     examples_point_to_the_schema,
     picture_is_small,
-    manual_page_is_clean,
-    manual_page_names_commands_and_statuses,
+    manual_pages_are_clean,
+    manual_pages_name_commands_and_statuses,
     bash_completes,
+    bash_completes_questions,
     bash_completes_files,
     fish_completes,
     zsh_completes,

@@ -1,27 +1,25 @@
-//! What can come next, and whether any run has an event of a form.
+//! What can come next, whether any run comes to what is asked, and how runs end.
 
-ghost use Rattle.std.specs.Prelude.{IfOk};
+ghost use Rattle.std.specs.Prelude.{◌<◌, ◌^◌, IfOk};
 ghost use Rattle.um_base.specs.Lawful.{IsLawful};
 
 use std::alloc::Global;
 use std::process::Abort;
 use std::test::Fail;
 use um_base::Image;
-use um_explore::{Compares, Finding, Next, find, fits, next_lines};
+use um_explore::{Endings, Finding, Next, ends, find, next_lines};
 use um_image::read_image;
-use um_matrix::Matrix;
+use um_question::{Asking, fits, read_question};
 use um_samples::{LAST_BYTE, LAST_BYTE_RUN};
 
-/// Takes no two states for the same.
-struct Apart;
-
-impl Compares for Apart {
-    fn are_same(&self, _a: &Matrix, _b: &Matrix) -> bool {
-        false
-    }
-
-    fn digest(&self, _state: &Matrix) -> u64 {
-        0
+/// What the search answers to the text of a question.
+fn answer(alloc: Global, image: &Image, text: &str, most: usize) -> Result<Finding, Fail>
+    requires lawful { IsLawful image.now }
+    requires few { most < 2 ^ 32 }
+{
+    match read_question(alloc, image, text.as_bytes())? {
+        Asking::Is(question) => Ok(find(alloc, image, &question, most)?),
+        Asking::Unknown { .. } => Err(Fail::new("unknown")),
     }
 }
 
@@ -87,32 +85,33 @@ fn words_fit(rt: HostRuntime) {
 }
 
 #[test]
-fn an_event_is_found_or_never_comes(rt: HostRuntime) -> Result<(), Fail> {
+fn what_is_asked_is_found_or_never_comes(rt: HostRuntime) -> Result<(), Fail> {
     let alloc = rt.alloc();
     let image = image_of(alloc, LAST_BYTE)?;
-    match find(alloc, &image, "a fatal * access".as_bytes(), &Apart, 1000)? {
+    match answer(alloc, &image, "a fatal * access", 1000)? {
         Finding::Found(text) => assert!(rt; text.as_slice() == LAST_BYTE_RUN.as_bytes()),
         _ => assert!(rt; false),
     }
-    match find(
-        alloc,
-        &image,
-        "a store 0x20000020 1 *".as_bytes(),
-        &Apart,
-        1000,
-    )? {
+    match answer(alloc, &image, "a reads 0x20000020/1", 1000)? {
         Finding::Never { states } => assert!(rt; states > 5),
         _ => assert!(rt; false),
     }
-    match find(
-        alloc,
-        &image,
-        "a store 0x20000020 1 *".as_bytes(),
-        &Apart,
-        2,
-    )? {
+    match answer(alloc, &image, "a reads 0x20000020/1", 2)? {
         Finding::Unknown { states, unseen } => assert!(rt; states == 3 && unseen == 1),
         _ => assert!(rt; false),
+    }
+    Ok(())
+}
+
+#[test]
+fn a_run_ends_in_one_way(rt: HostRuntime) -> Result<(), Fail> {
+    let alloc = rt.alloc();
+    let image = image_of(alloc, LAST_BYTE)?;
+    match ends(alloc, &image, 1000)? {
+        Endings::Ends(text) => assert!(rt;
+            text.starts_with("end 1: 1 states, 8 events\n".as_bytes())
+        ),
+        Endings::Unknown { .. } => assert!(rt; false),
     }
     Ok(())
 }

@@ -8,4 +8,5 @@ mod reading;
 mod tests;
 
 pub use command::{Command, Options};
+pub use numbers::number;
 pub use reading::read_command;

@@ -14,8 +14,11 @@ use Rattle.um_audit.proofs.WholeLemmas.{led-run}
 use Rattle.um_audit.proofs.WholeLemmas as Whole
 use Rattle.um_matrix.proofs.OfferLemmas.{le-or-lt}
 use Rattle.um_matrix.specs.Offered.{IsRefusedAt}
-use Rattle.um_explore.specs.Met.{Adds, AreLayered, AreMet, Grows, IsKnown, IsMet, IsNear, IsTree, Leads, LeadsOn, PathTo, goes, opens}
+use Rattle.um_matrix.proofs.ReachLemmas.{image-opening, image-step}
+use Rattle.um_explore.specs.Failures.{Failures, failures, noted}
+use Rattle.um_explore.specs.Met.{Adds, AreLayered, AreMet, Grows, IsKnown, IsLed, IsMet, IsNear, IsTree, Leads, LeadsOn, PathTo, goes, opens}
 use Rattle.um_explore.specs.declared.met.Link.{Link}
+use Rattle.um_explore.proofs.FailureLemmas.{failures-push}
 
 -- events lead to one state
 pub runs-one : (image : Image) → IsDescribed image → (events : List Event) (a b : State) → IsRun image events a → IsRun image events b → a ≡ b
@@ -72,16 +75,16 @@ reverse-push xs x = reverse-append xs (x ∷ [])
 
 -- One state more.
 
-get-more : {A : Type 0} (xs ys : List A) (k : ℕ) (y : A) → slice_get xs k ≡ Some y → slice_get (xs ++ ys) k ≡ Some y
+pub get-more : {A : Type 0} (xs ys : List A) (k : ℕ) (y : A) → slice_get xs k ≡ Some y → slice_get (xs ++ ys) k ≡ Some y
 get-more [] ys k y h = cc
 get-more (x ∷ xs) ys zero y h = h
 get-more (x ∷ xs) ys (suc k) y h = get-more xs ys k y h
 
-get-front : {A : Type 0} (xs : List A) (y : A) → slice_get (xs ++ y ∷ []) (length xs) ≡ Some y
+pub get-front : {A : Type 0} (xs : List A) (y : A) → slice_get (xs ++ y ∷ []) (length xs) ≡ Some y
 get-front [] y = refl
 get-front (x ∷ xs) y = get-front xs y
 
-get-less : {A : Type 0} (xs ys : List A) (k : ℕ) (y : A) → k < length xs → slice_get (xs ++ ys) k ≡ Some y → slice_get xs k ≡ Some y
+pub get-less : {A : Type 0} (xs ys : List A) (k : ℕ) (y : A) → k < length xs → slice_get (xs ++ ys) k ≡ Some y → slice_get xs k ≡ Some y
 get-less [] ys k y less h = absurd (omega arith)
 get-less (x ∷ xs) ys zero y less h = h
 get-less (x ∷ xs) ys (suc k) y less h = get-less xs ys k y (omega arith) h
@@ -107,14 +110,30 @@ grows-by image links link = record { more = grind (arith, length-append); paths 
 pub grows-add : (image : Image) (before links : List Link) (parent : ℕ) (event : Event) → Adds before parent event links → Grows image before links
 grows-add image before links parent event (link, from, by, is) = subst (λ (ls : List Link). Grows image before ls) (sym is) (grows-by image before link)
 
-pub met-kept : (image : Image) (before links : List Link) (n : ℕ) (s : State) → Grows image before links → IsMet image before n s → IsMet image links n s
-met-kept image before links n s grows (k, within, events, path, run, few) =
-    let more = grows.more in (k, omega (arith, within, more), events, grows.paths k events path, run, few)
+pub led-kept : (image : Image) (before links : List Link) (k : ℕ) (events : List Event) (s : State) → Grows image before links → IsLed image before k events s → IsLed image links k events s
+led-kept image before links k events s grows led = record { path = grows.paths k events led.path; run = led.run }
+
+pub met-kept : (image : Image) (before links : List Link) (n : ℕ) (notes : Failures) (s : State) → Grows image before links → IsMet image before n notes s → IsMet image links n notes s
+met-kept image before links n notes s grows (k, within, events, led, noted_so, few) =
+    let more = grows.more in (k, omega (arith, within, more), events, led-kept image before links k events s grows led, noted_so, few)
 
 -- the state that the new link leads to
+new-led : (image : Image) (before : List Link) (link : Link) (events : List Event) (s s2 : State) → link.parent ≤ length before → IsLed image before link.parent events s → Step s link.event s2
+    → IsLed image (before ++ link ∷ []) (length before + 1) (events ++ link.event ∷ []) s2
+new-led image before link events s s2 up led step = record {
+  path = goes refl (get-front before link) up (path-kept before (link ∷ []) link.parent events led.path) refl;
+  run = runs-push (opening image) events s link.event s2 led.run step;
+}
+
+pub leads-led : (image : Image) (links : List Link) (k : ℕ) (events : List Event) (s : State) → IsLed image links k events s → Leads image links k s
+leads-led image links k events s led = (events, led.path, led.run)
+
+pub led-leads : (image : Image) (links : List Link) (k : ℕ) (s : State) (there : Leads image links k s) → IsLed image links k there.0 s
+led-leads image links k s there = record { path = there.1; run = there.2 }
+
 new-leads : (image : Image) (before : List Link) (link : Link) (s s2 : State) → link.parent ≤ length before → Leads image before link.parent s → Step s link.event s2 → Leads image (before ++ link ∷ []) (length before + 1) s2
-new-leads image before link s s2 up (events, path, run) step =
-    (events ++ link.event ∷ [], goes refl (get-front before link) up (path-kept before (link ∷ []) link.parent events path) refl, runs-push (opening image) events s link.event s2 run step)
+new-leads image before link s s2 up there step =
+    leads-led image (before ++ link ∷ []) (length before + 1) (there.0 ++ link.event ∷ []) s2 (new-led image before link there.0 s s2 up (led-leads image before link.parent s there) step)
 
 three-ways : (k n : ℕ) → k ≤ n + 1 → (k ≤ n) ⊎ (k ≡ n + 1)
 three-ways k n h = elim (le-or-lt k (n + 1)) [ inl less ↦ inl (omega (arith, less)) | inr past ↦ inr (omega (arith, past, h)) ]
@@ -223,18 +242,38 @@ near-next image links k are within layered near j events others path other =
 pub few-add : (before links : List Link) (parent most : ℕ) (event : Event) → Adds before parent event links → length before < most → length links ≤ most
 few-add before links parent most event (link, from, by, is) less = let long = ap (λ (ls : List Link). length ls) is in grind (arith, length-append, long, less)
 
-pub known-add : (image : Image) (before links : List Link) (parent : ℕ) (event : Event) (s s2 : State) → Adds before parent event links → parent ≤ length before → Leads image before parent s → Step s event s2 → IsKnown image links s2
-known-add image before links parent event s s2 (link, from, by, is) up leads step =
-    subst (λ (ls : List Link). IsKnown image ls s2) (sym is) (
+pub known-add : (image : Image) (before links : List Link) (parent : ℕ) (event : Event) (events : List Event) (notes : Failures) (s s2 : State) → Adds before parent event links → parent ≤ length before → IsLed image before parent events s
+    → notes ≡ noted event (failures events) → Step s event s2 → IsKnown image links notes s2
+known-add image before links parent event events notes s s2 (link, from, by, is) up led noted_so step =
+    subst (λ (ls : List Link). IsKnown image ls notes s2) (sym is) (
       length before + 1,
       grind (arith, length-append),
-      new-leads image before link s s2 (subst (λ (p : ℕ). p ≤ length before) (sym from) up) (subst (λ (p : ℕ). Leads image before p s) (sym from) leads) (subst (λ (e : Event). Step s e s2) (sym by) step),
+      events ++ link.event ∷ [],
+      new-led image before link events s s2 (subst (λ (p : ℕ). p ≤ length before) (sym from) up) (subst (λ (p : ℕ). IsLed image before p events s) (sym from) led) (subst (λ (e : Event). Step s e s2) (sym by) step),
+      failures-push events link.event ∙ ap (λ (e : Event). noted e (failures events)) by ∙ sym noted_so,
     )
 
 -- one state to which an event leads was met, so each is
-pub leads-on : (image : Image) (before links : List Link) (k : ℕ) (event : Event) (s s2 : State) → AreMet image links → Grows image before links → IsNear links k → Leads image before k s → Step s event s2 → IsKnown image links s2 → LeadsOn image links k event
-leads-on image before links k event s s2 are grows near leads step (j, within, (others, path2, run2)) events a b path run other =
-    let here : Leads image links k s = (leads.0, grows.paths k leads.0 leads.1, leads.2) in
-    let same : s ≡ a = one-state image are.described links k s a here (events, path, run) in
-    let next : s2 ≡ b = step-one image are.described events a run event s2 b (subst (λ (now : State). Step now event s2) same step) other in
-    (j, within, others, path2, subst (λ (now : State). IsRun image others now) next run2, near j events others path path2)
+pub leads-on : (image : Image) (before links : List Link) (k : ℕ) (event : Event) (events : List Event) (notes : Failures) (s s2 : State) → AreMet image links → Grows image before links → IsNear links k → IsLed image before k events s
+    → notes ≡ noted event (failures events) → Step s event s2 → IsKnown image links notes s2 → LeadsOn image links k event
+leads-on image before links k event events notes s s2 are grows near led noted_so step (j, within, others, led2, noted_there) path_events a b there other =
+    let here = led-kept image before links k events s grows led in
+    let alike : events ≡ path_events = one-path links k events path_events here.path there.path in
+    let same : s ≡ a = one-state image are.described links k s a (leads-led image links k events s here) (leads-led image links k path_events a there) in
+    let next : s2 ≡ b = step-one image are.described path_events a there.run event s2 b (subst (λ (now : State). Step now event s2) same step) other in (
+      j,
+      within,
+      others,
+      record { path = led2.path; run = subst (λ (now : State). IsRun image others now) next led2.run },
+      noted_there ∙ noted_so ∙ ap (λ (es : List Event). noted event (failures es)) alike,
+      near j path_events others there.path led2.path,
+    )
+
+-- The image of a state.
+
+image-runs : (events : List Event) (s s2 : State) → Runs s events s2 → s2.image ≡ s.image
+image-runs [] s s2 same = ap (λ (now : State). now.image) same
+image-runs (e ∷ events) s s2 (next, step, rest) = image-runs events next s2 rest ∙ image-step s next e step
+
+pub image-run : (image : Image) (events : List Event) (s : State) → IsRun image events s → s.image ≡ image
+image-run image events s run = image-runs events (opening image) s run ∙ image-opening image

@@ -13,7 +13,8 @@ use Rattle.um_matrix.specs.Offered.{IsStep}
 use Rattle.um_trace.specs.Acts.{event_line}
 use Rattle.um_audit.proofs.WholeLemmas.{event-ended}
 use Rattle.um_explore.specs.Steps.{AreSteps, Has}
-use Rattle.um_explore.specs.Questions.{AreLines, AreNext, Followed, FollowsLine, IsFollowed, IsNoLine, lines}
+use Rattle.um_explore.specs.Following.{Followed, FollowsLine}
+use Rattle.um_explore.specs.Questions.{AreLines, AreNext, IsFollowed, IsNoLine, lines}
 
 pub none-left : (rest : List ℕ) → length rest ≡ 0 → rest ≡ []
 none-left [] h = refl

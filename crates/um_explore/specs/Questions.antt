@@ -1,13 +1,13 @@
--- Questions about all runs of an image, and what answers them. Nothing here knows of a search.
-use Rattle.std.specs.Prelude.{◌≡◌, ◌≢◌, ℕ, ◌+◌, ◌<◌, ◌≤◌, Bool, IsTrue, List, [], ◌++◌, drop, length, Option, Some, None, slice_get}
-use Rattle.std.specs.List.{flat_map}
+-- What is asked of all runs of an image, and what answers it. Nothing here knows of a search.
+use Rattle.std.specs.Prelude.{◌≡◌, ◌≢◌, ℕ, ◌+◌, ◌≤◌, Bool, IsTrue, List, [], ◌++◌, length, Option, None}
+use Rattle.std.specs.List.{flat_map, last_or}
 use Rattle.um_base.specs.declared.act.Event.{Event}
 use Rattle.um_base.specs.declared.image.Image.{Image}
 use Rattle.um_machine.specs.Run.{IsComplete, IsRun, Step}
 use Rattle.um_machine.specs.State.{State}
 use Rattle.um_trace.specs.Acts.{event_line}
 use Rattle.um_trace.specs.Text.{text}
-use Rattle.um_explore.specs.Steps.{AreSteps, Has}
+use Rattle.um_explore.specs.Steps.{AreSteps}
 use Rattle.um_explore.specs.declared.finding.Finding.{Finding}
 use Rattle.um_explore.specs.declared.next.Next.{Next}
 
@@ -44,45 +44,38 @@ IsNextOf image bytes (Next.Lines next) = (s : State) × AreLines image bytes s �
 IsNextOf image bytes (Next.NoStep line) =
     (s : State) × (rest : List ℕ) × (count : ℕ) × IsFollowed image bytes rest count s × (line ≡ count + 1) × (rest ≢ []) × IsNoLine image rest s
 
--- Whether an event of some form is in any run. A form is a test of lines.
+-- Whether any run comes to what is asked. That is a test of a run's last event, of which the opening has none, and of the state to which it leads.
 
-abbrev pub IsOfForm : Image → (List ℕ → Bool) → Event → Type 0
-IsOfForm image form event = IsTrue (form (event_line image event))
+abbrev pub Test : Type 0
+Test = Option Event → State → Bool
 
--- no run has an event of the form
-abbrev pub IsNever : Image → (List ℕ → Bool) → Type 0
-IsNever image form = (events : List Event) (s : State) → IsRun image events s → (k : ℕ) (event : Event) → slice_get events k ≡ Some event → IsOfForm image form event → ⊥
+-- the last event of a list
+abbrev pub latest : List Event → Option Event
+latest events = last_or None events
 
--- A text is that of a complete run that has an event of the form, at this place. No run has one at an earlier place.
-pub record IsFound (image : Image) (form : List ℕ → Bool) (bytes : List ℕ) : Type 0 where
-  pub events : List Event
+-- a run that leads to s by these events has come to what is asked
+abbrev pub Meets : Test → List Event → State → Type 0
+Meets asked events s = IsTrue (asked (latest events) s)
+
+-- no run comes to what is asked
+abbrev pub IsNever : Image → Test → Type 0
+IsNever image asked = (events : List Event) (s : State) → IsRun image events s → Meets asked events s → ⊥
+
+-- A text is that of a complete run that comes to what is asked by its first events. No run comes to it by fewer.
+pub record IsFound (image : Image) (asked : Test) (bytes : List ℕ) : Type 0 where
+  pub front : List Event
+  pub more : List Event
+  pub here : State
   pub last : State
-  pub run : IsRun image events last
+  pub comes : IsRun image front here
+  pub meets : Meets asked front here
+  pub run : IsRun image (front ++ more) last
   pub complete : IsComplete last
-  pub is : bytes ≡ text image events last
-  pub place : ℕ
-  pub event : Event
-  pub there : slice_get events place ≡ Some event
-  pub fits : IsOfForm image form event
-  pub first : (others : List Event) (s : State) → IsRun image others s → (k : ℕ) (other : Event) → slice_get others k ≡ Some other → IsOfForm image form other → place ≤ k
+  pub is : bytes ≡ text image (front ++ more) last
+  pub first : (others : List Event) (s : State) → IsRun image others s → Meets asked others s → length front ≤ length others
 
--- one line of a text is followed, if it is that of a step: so many bytes of the rest are that line
-abbrev pub FollowsLine : Image → List ℕ → State → State → Option ℕ → Type 0
-FollowsLine image rest s s2 None = IsNoLine image rest s × (s2 ≡ s)
-FollowsLine image rest s s2 (Some n) = (event : Event) × Step s event s2 × (rest ≡ event_line image event ++ drop n rest) × (0 < n) × (n ≤ length rest)
-
--- which of some events has the line that comes first in a text: that line stands in a room
-abbrev pub IsFirstOf : Image → List Event → List ℕ → List ℕ → Option Event → Type 0
-IsFirstOf image events rest room None = (event : Event) (more : List ℕ) → Has events event → rest ≡ event_line image event ++ more → ⊥
-IsFirstOf image events rest room (Some event) = (more : List ℕ) × Has events event × (room ≡ event_line image event) × (rest ≡ event_line image event ++ more)
-
--- all lines of a text were followed, or only so many
-abbrev pub Followed : Image → List ℕ → State → Option ℕ → Type 0
-Followed image bytes s None = AreLines image bytes s
-Followed image bytes s (Some count) = (rest : List ℕ) × IsFollowed image bytes rest count s × (rest ≢ []) × IsNoLine image rest s
-
--- what is answered of a form: never, or a run that has such an event; that it isn't known says nothing
-abbrev pub IsFinding : Image → (List ℕ → Bool) → Finding → Type 0
-IsFinding image form (Finding.Found bytes) = IsFound image form bytes.items
-IsFinding image form (Finding.Never states) = IsNever image form
-IsFinding image form (Finding.Unknown states unseen) = Unit {0}
+-- what is answered: never, or a run that comes to what is asked; that it isn't known says nothing
+abbrev pub IsFinding : Image → Test → Finding → Type 0
+IsFinding image asked (Finding.Found bytes) = IsFound image asked bytes.items
+IsFinding image asked (Finding.Never states) = IsNever image asked
+IsFinding image asked (Finding.Unknown states unseen) = Unit {0}

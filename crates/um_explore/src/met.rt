@@ -1,16 +1,20 @@
 //! The states that a search met.
 
-ghost use Rattle.std.specs.Prelude.{◌≡◌, ◌≤◌, [], IfOk, IsTrue, length, true};
-ghost use Rattle.um_machine.specs.State.{State};
-ghost use Rattle.um_matrix.specs.Offered.{IsStep};
-ghost use Rattle.um_explore.specs.Met.{Adds, AreLayered, AreMet, Grows, IsKnown, IsNear, IsTree, Leads, LeadsOn, PathTo};
+ghost use Rattle.std.specs.Prelude.{◌≡◌, ◌≤◌, ◌+◌, [], List, IfOk, length, true};
+ghost use Rattle.um_machine.specs.Run.{Step, opening};
+ghost use Rattle.um_explore.specs.Failures.{failures, noted};
+ghost use Rattle.um_explore.specs.Met.{Adds, AreLayered, AreMet, AreRooms, Grows, IsKnown, IsLed, IsNear, IsTree, LeadsOn, PathTo};
+ghost use Rattle.um_base.specs.declared.act.Event.{Event};
 
+use crate::digest::digest;
+use crate::failures::{Failure, failures_of, same_failures};
+use crate::rooms::{Rooms, rebuild};
 use std::alloc::Global;
 use um_base::{Act, Event, Image, OutOfMemory};
-use um_matrix::{Matrix, NotAStep};
+use um_matrix::Matrix;
 
-/// A state that a search met: the number of the state that it comes from, and the event that leads from there. The opening has number 0,
-/// and the state of the link at index `n` the number `n + 1`.
+/// A state that a search met, with how threads failed on the way to it: the number of the state that it comes from, and the event that
+/// leads from there. The opening has number 0, and the state of the link at index `n` the number `n + 1`.
 #[derive(Clone, Copy)]
 pub struct Link {
     pub parent: usize,
@@ -19,16 +23,6 @@ pub struct Link {
     pub digest: u64,
     /// The state with the same bucket that was met before, or 0.
     pub before: usize,
-}
-
-/// Tells states apart.
-pub trait Compares {
-    /// Whether two states are the same. Where it says no, they may still be.
-    fn are_same(&self, a: &Matrix, b: &Matrix) -> bool
-        ensures { IsTrue result → a.now ≡ b.now };
-
-    /// A number that the same states have in common.
-    fn digest(&self, state: &Matrix) -> u64;
 }
 
 /// What a search met.
@@ -57,23 +51,31 @@ pub(crate) fn path(alloc: Global, links: &[Link], k: usize) -> Result<Vec<Event>
     Ok(events)
 }
 
-/// The state of a number, made anew from the opening.
-pub(crate) fn rebuild<'a>(
+/// Whether a state is that of a number, with the same failures on the way. The state of the number is made anew in a room.
+fn is_state_of(
     alloc: Global,
-    image: &'a Image,
+    image: &Image,
+    opens: &Matrix,
+    state: &Matrix,
+    room: &mut Matrix,
     links: &[Link],
     k: usize,
-) -> Result<Matrix<'a>, OutOfMemory>
+    notes: &[Option<Failure>],
+) -> Result<bool, OutOfMemory>
     requires are { AreMet image.now links.now }
     requires met { k ≤ length links.now }
-    ensures { IfOk result (λ matrix. Leads image.now links.now k matrix) }
+    requires opens { opens.now ≡ opening image.now }
+    requires state { state.now.image ≡ image.now }
+    requires room { room.old.image ≡ image.now }
+    ensures room { IfOk result (λ _. room.new.image ≡ image.now) }
+    ensures known { IfOk result (λ same. same ≡ true → IsKnown image.now links.now notes.now state.now) }
 {
-    let events = path(alloc, links, k)?;
-    let mut matrix = Matrix::boot(alloc, image)?;
-    match matrix.judge(&events) {
-        Ok(()) => Ok(matrix),
-        Err(_) => unreachable!(),
+    let events = rebuild(alloc, image, opens, room, links, k)?;
+    let failures = failures_of(&events);
+    if !same_failures(&failures, notes) {
+        return Ok(false);
     }
+    Ok(room.is_same(state))
 }
 
 impl Met {
@@ -105,26 +107,33 @@ impl Met {
         }
     }
 
-    /// Whether a state was met. Where it says no, it may still have been.
-    fn knows<S: Compares>(
+    /// Whether a state was met, with the same failures. Where it says no, it may still have been.
+    fn knows(
         &self,
         alloc: Global,
         image: &Image,
-        compares: &S,
+        opens: &Matrix,
         state: &Matrix,
+        room: &mut Matrix,
+        notes: &[Option<Failure>],
         digest: u64,
     ) -> Result<bool, OutOfMemory>
         requires are { AreMet image.now self.now.links.items }
-        ensures { IfOk result (λ known. known ≡ true → IsKnown image.now self.now.links.items state.now) }
+        requires opens { opens.now ≡ opening image.now }
+        requires state { state.now.image ≡ image.now }
+        requires room { room.old.image ≡ image.now }
+        ensures room { IfOk result (λ _. room.new.image ≡ image.now) }
+        ensures known { IfOk result (λ known. known ≡ true
+            → IsKnown image.now self.now.links.items notes.now state.now) }
     {
+        let links = self.links.as_slice();
         let mut at = self.last_in(self.bucket(digest));
-        while at > 0 && at <= self.links.len() {
-            let link = self.links[at - 1];
-            if link.digest == digest {
-                let other = rebuild(alloc, image, &self.links, at)?;
-                if compares.are_same(&other, state) {
-                    return Ok(true);
-                }
+        while at > 0 && at <= links.len() {
+            let link = links[at - 1];
+            if link.digest == digest
+                && is_state_of(alloc, image, opens, state, room, links, at, notes)?
+            {
+                return Ok(true);
             }
             if link.before >= at {
                 return Ok(false);
@@ -157,24 +166,30 @@ impl Met {
         Ok(())
     }
 
-    /// Makes a step from the state of a number, and adds the state to which it leads, unless that was met. No more than `most` states are
-    /// kept: it says no where one more would have been needed.
-    pub(crate) fn take<S: Compares>(
+    /// Adds the state to which a step leads from the state of a number, unless it was met with the same failures. No more than `most` states
+    /// are kept: it says no where one more would have been needed.
+    pub(crate) fn take(
         &mut self,
         alloc: Global,
         image: &Image,
-        compares: &S,
+        rooms: &mut Rooms,
+        notes: &[Option<Failure>],
         parent: usize,
         event: &Event,
         most: usize,
     ) -> Result<bool, OutOfMemory>
         requires are { AreMet image.now self.old.links.items }
+        requires rooms { AreRooms image.now rooms.old }
         requires met { parent ≤ length self.old.links.items }
         requires layered { AreLayered self.old.links.items }
         requires near { IsNear self.old.links.items parent }
         requires few { length self.old.links.items ≤ most }
-        requires step { (s : State) → Leads image.now self.old.links.items parent s → IsStep s event.now }
+        requires led { (events : List Event) × IsLed image.now self.old.links.items parent events rooms.old.here
+            × (notes.now ≡ noted event.now (failures events)) }
+        requires step { Step rooms.old.here event.now rooms.old.there }
         ensures are { IfOk result (λ _. AreMet image.now self.new.links.items) }
+        ensures rooms { IfOk result (λ _. AreRooms image.now rooms.new) }
+        ensures here { IfOk result (λ _. rooms.new.here ≡ rooms.old.here) }
         ensures layered { IfOk result (λ _. AreLayered self.new.links.items) }
         ensures near { IfOk result (λ _. IsNear self.new.links.items parent) }
         ensures few { IfOk result (λ _. length self.new.links.items ≤ most) }
@@ -182,13 +197,16 @@ impl Met {
         ensures leads { IfOk result
             (λ room. room ≡ true → LeadsOn image.now self.new.links.items parent event.now) }
     {
-        let mut state = rebuild(alloc, image, &self.links, parent)?;
-        match state.apply(event) {
-            Ok(()) => {}
-            Err(NotAStep) => unreachable!(),
-        }
-        let digest = compares.digest(&state);
-        if self.knows(alloc, image, compares, &state, digest)? {
+        let digest = digest(&rooms.there, notes);
+        if self.knows(
+            alloc,
+            image,
+            &rooms.opens,
+            &rooms.there,
+            &mut rooms.other,
+            notes,
+            digest,
+        )? {
             return Ok(true);
         }
         if self.links.as_slice().len() >= most {

@@ -3,7 +3,7 @@
 ghost use Rattle.std.specs.Prelude.{◌≡◌, ◌<◌, ◌≤◌, ◌-◌, ◌^◌, IfOk, IfSome, length, vec_capacity};
 ghost use Rattle.um_base.specs.Lawful.{IsLawful};
 ghost use Rattle.um_machine.specs.Run.{opening};
-ghost use Rattle.um_explore.specs.Questions.{Followed, FollowsLine, IsFirstOf, IsNextOf, lines};
+ghost use Rattle.um_explore.specs.{Following.{Followed, FollowsLine, IsFirstOf}, Questions.{IsNextOf, lines}};
 
 use crate::steps::steps_of;
 use std::alloc::Global;

@@ -18,3 +18,4 @@ pub mod Goes
 pub mod Outcomes
 pub mod Table
 pub mod Run
+pub mod Same

@@ -1,6 +1,6 @@
 //! What a pipe keeps.
 
-ghost use Rattle.std.specs.Prelude.{◌≡◌, ◌+◌, ◌≤◌, [], ◌++◌, length, take, drop, true, false};
+ghost use Rattle.std.specs.Prelude.{◌≡◌, ◌+◌, ◌≤◌, [], ◌++◌, length, take, drop, true, false, IsTrue};
 
 use crate::pieces::{append, piece};
 use std::marker::Model;
@@ -68,6 +68,27 @@ impl BytePipe {
         ensures few { result ≤ 256 }
     {
         self.bytes.len()
+    }
+
+    /// The same pipe once more.
+    pub fn copy(&self) -> BytePipe
+        ensures { result ≡ self.now }
+    {
+        BytePipe {
+            size: self.size,
+            bytes: self.bytes,
+            closed: self.closed,
+        }
+    }
+
+    /// Whether two pipes are the same.
+    pub fn is_same(&self, other: &BytePipe) -> bool
+        ensures { IsTrue result → self.now ≡ other.now }
+    {
+        if self.size != other.size || self.closed != other.closed {
+            return false;
+        }
+        self.bytes() == other.bytes()
     }
 
     /// Puts bytes behind the others.

@@ -8,6 +8,7 @@ mod object;
 mod pending;
 pub mod pieces;
 pub mod places;
+mod same;
 mod served;
 mod thread;
 mod value_stack;

@@ -1,8 +1,9 @@
 //! What a message queue keeps.
 
-ghost use Rattle.std.specs.Prelude.{◌≡◌, ◌<◌, ◌≤◌, [], ◌∷◌, ◌++◌, length, slice_get, IfSome};
+ghost use Rattle.std.specs.Prelude.{◌≡◌, ◌<◌, ◌≤◌, [], ◌∷◌, ◌++◌, length, slice_get, get_or, IfSome, IsTrue, List, ℕ};
 ghost use Rattle.um_machine.specs.Contents.{TakesOldest};
 
+use crate::same::same_piece;
 use std::marker::Model;
 use um_base::Piece;
 
@@ -81,6 +82,50 @@ impl MessageQueue {
         } else {
             Some(self.items[self.oldest])
         }
+    }
+
+    /// The same queue once more.
+    pub fn copy(&self) -> MessageQueue
+        ensures { result ≡ self.now }
+    {
+        MessageQueue {
+            size: self.size,
+            most: self.most,
+            items: self.items,
+            oldest: self.oldest,
+            len: self.len,
+        }
+    }
+
+    /// The message behind so many older ones.
+    fn at(&self, i: usize) -> &Piece
+        requires { i < length self.now.messages }
+        ensures { (other : List ℕ) → result.now ≡ get_or self.now.messages i other }
+    {
+        &self.items[(self.oldest + i) % MOST]
+    }
+
+    /// Whether the messages are the same, of two queues that have equally many.
+    fn has_same(&self, other: &MessageQueue) -> bool
+        requires { length self.now.messages ≡ length other.now.messages }
+        ensures { IsTrue result → self.now.messages ≡ other.now.messages }
+    {
+        for i in 0..self.len {
+            if !same_piece(self.at(i), other.at(i)) {
+                return false;
+            }
+        }
+        true
+    }
+
+    /// Whether two queues are the same.
+    pub fn is_same(&self, other: &MessageQueue) -> bool
+        ensures { IsTrue result → self.now ≡ other.now }
+    {
+        if self.size != other.size || self.most != other.most || self.len != other.len {
+            return false;
+        }
+        self.has_same(other)
     }
 
     /// Puts a message behind the others.

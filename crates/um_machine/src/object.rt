@@ -1,5 +1,7 @@
 //! What the machine keeps of a row.
 
+ghost use Rattle.std.specs.Prelude.{◌≡◌};
+
 use crate::contents::Contents;
 use crate::waiters::Waiters;
 use um_base::{Kind, ThreadIx};
@@ -47,4 +49,23 @@ pub struct Object {
     pub buffer: Option<Cost>,
     /// The thread that cleans it.
     pub cleaner: Option<ThreadIx>,
+}
+
+impl Object {
+    /// The same once more.
+    pub fn copy(&self) -> Object
+        ensures { result ≡ self.now }
+    {
+        Object {
+            kind: self.kind,
+            status: self.status,
+            public: self.public,
+            init: self.init,
+            contents: self.contents.copy(),
+            waiters: self.waiters.copy(),
+            cost: self.cost,
+            buffer: self.buffer,
+            cleaner: self.cleaner,
+        }
+    }
 }

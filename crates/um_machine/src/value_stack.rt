@@ -1,6 +1,6 @@
 //! What a stack keeps.
 
-ghost use Rattle.std.specs.Prelude.{◌≡◌, ◌<◌, ◌≤◌, [], ◌∷◌, ◌++◌, ◌==◌, length};
+ghost use Rattle.std.specs.Prelude.{◌≡◌, ◌<◌, ◌≤◌, [], ◌∷◌, ◌++◌, ◌==◌, length, IsTrue};
 ghost use Rattle.um_machine.specs.Contents.{TakesLast};
 
 use std::marker::Model;
@@ -54,6 +54,27 @@ impl ValueStack {
         ensures few { length result.now ≤ 64 }
     {
         &self.items[..self.len]
+    }
+
+    /// The same stack once more.
+    pub fn copy(&self) -> ValueStack
+        ensures { result ≡ self.now }
+    {
+        ValueStack {
+            most: self.most,
+            items: self.items,
+            len: self.len,
+        }
+    }
+
+    /// Whether two stacks are the same.
+    pub fn is_same(&self, other: &ValueStack) -> bool
+        ensures { IsTrue result → self.now ≡ other.now }
+    {
+        if self.most != other.most {
+            return false;
+        }
+        self.values() == other.values()
     }
 
     /// How many values are in it.

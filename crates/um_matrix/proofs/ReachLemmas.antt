@@ -41,7 +41,7 @@ image-loaded [] s = refl
 image-loaded (p ∷ ps) s =
     image-loaded ps (with_bytes s p.range.start.0 p.bytes) ∙ bytes-leave (λ (z : State). z.image) (λ z bytes. refl) (λ z bytes. refl) s p.range.start.0 p.bytes
 
-image-opening : (image : Image) → (opening image).image ≡ image
+pub image-opening : (image : Image) → (opening image).image ≡ image
 unfolding blank
 image-opening image = image-booted image.boots (loaded image.partitions (blank image)) ∙ image-loaded image.partitions (blank image)
 
@@ -49,7 +49,7 @@ image-after : (s : State) (t x : ℕ) (step : Pending) (rest : Steps) → (after
 image-after s t x step rest =
     subst (λ (to : State). to.image ≡ s.image) (sym (after-is s t x step rest)) (shared-went (λ (z : State). z.image) (λ z threads. refl) rest (wrote (effects_of s t x step) s) t (next_of s t x step) ∙ image-wrote (effects_of s t x step) s)
 
-image-step : (s s2 : State) (event : Event) → Step s event s2 → s2.image ≡ s.image
+pub image-step : (s s2 : State) (event : Event) → Step s event s2 → s2.image ≡ s.image
 image-step s s2 event step = subst (λ (to : State). to.image ≡ s.image) (sym step.leaves) (image-after s event.thread.0 step.row step.step step.rest)
 
 -- Runs.

@@ -1,6 +1,6 @@
 //! Virtual time, and the deadlines that were armed.
 
-ghost use Rattle.std.specs.Prelude.{◌≡◌, ◌+◌, ◌<◌, ◌≤◌, ◌*◌, ◌^◌, ◌++◌, ◌∷◌, [], IfOk, if◌then◌else◌, length, nat_lt, unwrap_or, vec_capacity};
+ghost use Rattle.std.specs.Prelude.{◌≡◌, ◌+◌, ◌<◌, ◌≤◌, ◌*◌, ◌^◌, ◌++◌, ◌∷◌, [], IfOk, IsTrue, if◌then◌else◌, length, nat_lt, unwrap_or, vec_capacity};
 ghost use Rattle.um_base.specs.declared.limits.TheConstants.{MOST_WEIGHT};
 ghost use Rattle.um_machine.specs.Time.{next_deadline};
 ghost use Rattle.um_matrix.specs.Ahead.{AreAscending, with_deadline};
@@ -50,6 +50,18 @@ fn put(now: u64, deadline: u64, ahead: &mut Vec<u64>)
     }
 }
 
+/// Puts numbers in place of those in a list. It takes no memory.
+fn refill(list: &mut Vec<u64>, numbers: &[u64])
+    requires { length numbers.now ≤ vec_capacity list.old }
+    ensures items { list.new.items ≡ numbers.now }
+    ensures room { vec_capacity list.new ≡ vec_capacity list.old }
+{
+    list.clear();
+    for number in numbers {
+        list.push_reserved(*number);
+    }
+}
+
 impl Clock {
     /// Time 0, without deadlines.
     pub fn new(alloc: Global) -> Result<Clock, OutOfMemory>
@@ -60,6 +72,25 @@ impl Clock {
             armed: Vec::with_capacity(alloc, MOST_WEIGHT as usize)?,
             ahead: Vec::with_capacity(alloc, MOST_WEIGHT as usize)?,
         })
+    }
+
+    /// Takes the time and the deadlines of another clock. It takes no memory.
+    pub fn set_to(&mut self, other: &Clock)
+        ensures { self.new ≡ other.now }
+    {
+        self.present = other.present;
+        refill(&mut self.armed, other.armed.as_slice());
+        refill(&mut self.ahead, other.ahead.as_slice());
+    }
+
+    /// Whether two clocks have the same time, and the same deadlines were armed.
+    pub fn is_same(&self, other: &Clock) -> bool
+        ensures { IsTrue result → self.now ≡ other.now }
+    {
+        if self.present != other.present {
+            return false;
+        }
+        self.armed.as_slice() == other.armed.as_slice()
     }
 
     /// The ticks from the beginning.

@@ -1,6 +1,7 @@
 //! The access-matrix machine: threads against objects and byte ranges, and the steps that they may make.
 #![tactic(auto)]
 
+mod area;
 mod clock;
 mod matrix;
 mod object_table;

@@ -89,6 +89,35 @@ impl<'a> Matrix<'a> {
         Ok(())
     }
 
+    /// Whether two states of one image are the same.
+    pub fn is_same(&self, other: &Matrix) -> bool
+        requires { self.now.image ≡ other.now.image }
+        ensures { IsTrue result → self.now ≡ other.now }
+    {
+        self.tables.is_same(&other.tables)
+    }
+
+    /// Takes over another state of the same image. Where memory runs out, nothing is changed.
+    pub fn set_to(&mut self, alloc: Global, other: &Matrix) -> Result<(), OutOfMemory>
+        requires { self.old.image ≡ other.now.image }
+        ensures ok { OnOk result (self.new ≡ other.now) }
+        ensures same { OnErr result (self.new ≡ self.old) }
+    {
+        self.tables.set_to(alloc, &other.tables)
+    }
+
+    /// A number that the same states have in common. Others may have it too.
+    pub fn digest(&self) -> u64 {
+        self.tables.digest()
+    }
+
+    /// Makes later comparisons with this state cheaper: it looks for the last bytes of its memory that aren't 0.
+    pub fn trim(&mut self)
+        ensures { self.new ≡ self.old }
+    {
+        self.tables.trim();
+    }
+
     /// An event that is a step, or none where no event is one.
     pub fn next_event(&self) -> Option<Event>
         ensures { MatchOption result (IsComplete self.now) (λ event. IsStep self.now event) }

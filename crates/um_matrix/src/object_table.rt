@@ -1,7 +1,7 @@
 //! The objects of all rows.
 
 ghost use Rattle.std.specs.{
-  Prelude.{◌≡◌, ◌<◌, ◌≤◌, ◌-◌, ◌++◌, IfOk, length, replicate, slice_index_or, vec_len, vec_capacity},
+  Prelude.{◌≡◌, ◌<◌, ◌≤◌, ◌-◌, ◌++◌, IfOk, length, replicate, slice_index_or, slice_set, IsTrue, vec_len, vec_capacity},
   Borrow.{sem},
 };
 ghost use Rattle.um_base.specs.Lawful.{IsLawful};
@@ -72,6 +72,41 @@ fn fill(rows: &mut Vec<Object>, n: usize)
     }
 }
 
+/// Whether two lists of equally many objects are the same.
+fn same_objects(a: &[Object], b: &[Object]) -> bool
+    requires { length a.now ≡ length b.now }
+    ensures { IsTrue result → a.now ≡ b.now }
+{
+    for x in 0..a.len() {
+        if !a[x].is_same(&b[x]) {
+            return false;
+        }
+    }
+    true
+}
+
+/// Takes over an object, where it isn't the same already.
+fn take_object(own: &mut Object, other: &Object)
+    ensures { own.new ≡ other.now }
+{
+    if !own.is_same(other) {
+        *own = other.copy();
+    }
+}
+
+/// Takes over a list of objects, for which there is room.
+fn take_objects(own: &mut Vec<Object>, other: &[Object])
+    requires { length other.now ≤ vec_capacity own.old }
+    ensures items { own.new.items ≡ other.now }
+    ensures room { vec_capacity own.new ≡ vec_capacity own.old }
+{
+    own.truncate(other.len());
+    fill(own, other.len());
+    for x in 0..other.len() {
+        take_object(&mut own[x], &other[x]);
+    }
+}
+
 impl ObjectTable {
     ghost use Rattle.um_matrix.specs.Lending.{LendsRow};
 
@@ -106,6 +141,53 @@ impl ObjectTable {
             Some(object) => object,
             None => &self.blank[0],
         }
+    }
+
+    /// How many rows there are.
+    #[tactic(auto, using(crate::proofs::TableLemmas::rows_long))]
+    fn count(&self) -> usize
+        ensures value { result ≡ length self.now }
+        ensures all { result ≡ ROWS }
+    {
+        let _statics = self.statics.len();
+        ROWS
+    }
+
+    /// Whether two tables have the same objects.
+    pub fn is_same(&self, other: &ObjectTable) -> bool
+        ensures { IsTrue result → self.now ≡ other.now }
+    {
+        let statics = self.statics.len() == other.statics.len();
+        if !statics || self.dynamics.len() != other.dynamics.len() {
+            return self.has_same_rows(other);
+        }
+        same_objects(&self.statics, &other.statics) && same_objects(&self.dynamics, &other.dynamics)
+    }
+
+    /// Whether two tables have the same object in each row.
+    fn has_same_rows(&self, other: &ObjectTable) -> bool
+        ensures { IsTrue result → self.now ≡ other.now }
+    {
+        let _rows = (self.count(), other.count());
+        for x in 0..ROWS {
+            if !self.row(x).is_same(other.row(x)) {
+                return false;
+            }
+        }
+        true
+    }
+
+    /// Takes over the objects of another table. It takes no memory.
+    pub fn set_to(&mut self, other: &ObjectTable)
+        ensures { self.new ≡ other.now }
+    {
+        take_objects(&mut self.statics, &other.statics);
+        take_objects(&mut self.dynamics, &other.dynamics);
+    }
+
+    /// The objects that were ever written, of the static rows and of the dynamic ones.
+    pub(crate) fn written(&self) -> (&[Object], &[Object]) {
+        (self.statics.as_slice(), self.dynamics.as_slice())
     }
 
     /// The object of a row, to change it. It takes no memory.

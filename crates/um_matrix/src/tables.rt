@@ -5,6 +5,7 @@ mod checks;
 mod choice;
 mod cleaning;
 mod creation;
+mod digest;
 mod domains;
 mod dumped;
 mod dynamic;
@@ -17,6 +18,7 @@ mod next;
 mod objects;
 mod pairs;
 mod rows;
+mod same;
 mod says;
 mod stops;
 mod strings;
@@ -26,6 +28,7 @@ mod waiting;
 
 ghost use Rattle.std.specs.Prelude.{◌≡◌, ◌<◌, ◌≤◌, length};
 
+use crate::area::Area;
 use crate::clock::Clock;
 use crate::object_table::ObjectTable;
 pub use choice::Choice;
@@ -44,8 +47,8 @@ pub struct Tables<'a> {
     objects: ObjectTable,
     pairs: Vec<[bool; THREADS]>,
     domains: Vec<Option<Parts>>,
-    memory: Vec<u8>,
-    stacks: Vec<u8>,
+    memory: Area,
+    stacks: Area,
     pools: Vec<u32>,
     clock: Clock,
     /// Those who wait for the end of a thread.
@@ -70,8 +73,8 @@ impl<'a> Model for Tables<'a> {
       objects = m.objects;
       pairs = m.pairs.items;
       domains = m.domains.items;
-      memory = m.memory.items;
-      stacks = m.stacks.items;
+      memory = m.memory;
+      stacks = m.stacks;
       pools = m.pools.items;
       now = m.clock.0;
       armed = m.clock.1;
@@ -82,7 +85,7 @@ impl<'a> Model for Tables<'a> {
     ghost invariant = { λ m.
         (length m.threads.items ≡ THREADS) × (length m.objects ≡ ROWS) × (length m.pairs.items ≡ ROWS)
         × (length m.domains.items ≤ DOMAINS)
-        × (length m.memory.items ≡ AREA_SIZE) × (length m.stacks.items ≡ AREA_SIZE)
+        × (length m.memory ≡ AREA_SIZE) × (length m.stacks ≡ AREA_SIZE)
         × (length m.pools.items ≤ POOLS) × (m.rodata.items ≡ rodata_of m.image.now)
         × (length m.outcome.items ≡ 1) × IsGiven m.image.now };
 }

@@ -124,6 +124,10 @@ shown_thread image s x = if is_shown image s x then thread_of_row image x else N
 unfoldable pub thread_line_of : Image → State → ℕ → List ℕ
 thread_line_of image s x = thread_line_in image s x (shown_thread image s x)
 
+-- the lines of all threads, by the rows of their objects
+unfoldable pub threads_text : Image → State → List ℕ
+threads_text image s = flat_map (thread_line_of image s) (numbers ROWS)
+
 -- Objects.
 
 unfoldable pub state_word : Object → List ℕ

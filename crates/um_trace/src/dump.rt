@@ -9,7 +9,7 @@ mod memory;
 mod objects;
 pub mod standing;
 mod state;
-mod threads;
+pub mod threads;
 
 use crate::indexed::Indexed;
 use crate::room::put_text;

@@ -24,6 +24,6 @@ mod words;
 
 pub use dump::DUMP_ROOM;
 pub use layout::{layout_room, layout_text};
-pub use lines::{LINE_ROOM, dump_text, line_text, thread_beginning};
+pub use lines::{LINE_ROOM, THREADS_ROOM, dump_text, line_text, thread_beginning, threads_text};
 pub use summary::{SUMMARY_ROOM, summary_text};
 pub use trace::{text_room, trace_text};

@@ -3,6 +3,7 @@
 ghost use Rattle.std.specs.Prelude.{◌≡◌, IfOk, length};
 ghost use Rattle.um_base.specs.Lawful.{IsLawful};
 
+use crate::area::Area;
 use crate::clock::Clock;
 use crate::object_table::ObjectTable;
 use crate::tables::Tables;
@@ -40,8 +41,8 @@ impl<'a> Tables<'a> {
             objects,
             pairs: parts.pairs,
             domains: parts.domains,
-            memory: parts.memory,
-            stacks: parts.stacks,
+            memory: Area::new(parts.memory),
+            stacks: Area::new(parts.stacks),
             pools: parts.pools,
             clock,
             joins: Waiters::new(),

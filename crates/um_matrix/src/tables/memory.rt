@@ -4,7 +4,7 @@ ghost use Rattle.std.specs.Prelude.{◌≡◌, ◌<◌, ◌≤◌, ◌+◌, ◌^
 
 use crate::tables::Tables;
 use um_base::{Access, PARTITION_AREA, RODATA, Range, STACK_AREA, THREADS};
-use um_steps::bytes::{clear, part, write};
+use um_steps::bytes::part;
 use um_steps::regions;
 
 impl<'a> Tables<'a> {
@@ -75,13 +75,10 @@ impl<'a> Tables<'a> {
         ensures { self.new ≡ with_bytes self.old a bytes.now }
     {
         if a < STACK_AREA {
-            write(
-                &mut self.memory,
-                a.saturating_sub(PARTITION_AREA) as usize,
-                bytes,
-            );
+            self.memory
+                .write(a.saturating_sub(PARTITION_AREA) as usize, bytes);
         } else {
-            write(&mut self.stacks, (a - STACK_AREA) as usize, bytes);
+            self.stacks.write((a - STACK_AREA) as usize, bytes);
         }
     }
 
@@ -100,13 +97,10 @@ impl<'a> Tables<'a> {
         let a = range.start.0;
         let n = range.size as usize;
         if a < STACK_AREA {
-            clear(
-                &mut self.memory,
-                a.saturating_sub(PARTITION_AREA) as usize,
-                n,
-            );
+            self.memory
+                .clear(a.saturating_sub(PARTITION_AREA) as usize, n);
         } else {
-            clear(&mut self.stacks, (a - STACK_AREA) as usize, n);
+            self.stacks.clear((a - STACK_AREA) as usize, n);
         }
     }
 }

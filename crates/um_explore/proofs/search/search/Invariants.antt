@@ -1,19 +1,20 @@
 use Rattle.std.proofs.Common.{◌≤◌, ◌+◌, ◌-◌, length, vec_capacity}
+use Rattle.um_question.specs.Asked.{is_met}
 use Rattle.um_trace.specs.declared.lines.TheConstants.{LINE_ROOM}
-use Rattle.um_explore.specs.Forms.{fits}
-use Rattle.um_explore.specs.Met.{AreDone, AreLayered, AreMet, IsNear}
+use Rattle.um_explore.specs.Met.{AreDone, AreLayered, AreMet, AreRooms, IsNear}
 use Rattle.um_explore.proofs.search.search.Given as goal
 
 abbrev pub invariant-loop-k : goal.invariant-loop-k
-invariant-loop-k g l = record {
+invariant-loop-k l = record {
   room : LINE_ROOM ≤ vec_capacity l.room;
   are : AreMet l.asked.image.now l.met.links.items;
+  rooms : AreRooms l.asked.image.now l.rooms;
   layered : AreLayered l.met.links.items;
   near : IsNear l.met.links.items l.k;
   few : length l.met.links.items ≤ l.asked.most;
   within : l.k ≤ length l.met.links.items + 1;
-  done : AreDone l.asked.image.now (fits l.asked.form.now) l.met.links.items l.k;
+  done : AreDone l.asked.image.now (is_met l.asked.image.now l.asked.question.now) l.met.links.items l.k;
 }
 
 abbrev pub decreases-loop-k : goal.decreases-loop-k
-decreases-loop-k g l = l.asked.most + 2 - l.k
+decreases-loop-k l = l.asked.most + 2 - l.k

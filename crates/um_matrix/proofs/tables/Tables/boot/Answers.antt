@@ -13,10 +13,10 @@ boot-requires-2 c = c.into_parts-parts.ensures.given
 pub invariant_of-result : goal.invariant_of-result
 invariant_of-result c =
     let parts = c.into_parts-parts.ensures in
-    (parts.all_threads, c.in_ok-objects.ensures.all, parts.all_pairs, parts.few_domains, parts.whole_memory, parts.whole_stacks, parts.few_pools, parts.rodata ∙ sym (ap rodata_of parts.image), c.in_ok-outcome.ensures, parts.given)
+    (parts.all_threads, c.in_ok-objects.ensures.all, parts.all_pairs, parts.few_domains, c.new-2.ensures.all, c.new-3.ensures.all, parts.few_pools, parts.rodata ∙ sym (ap rodata_of parts.image), c.in_ok-outcome.ensures, parts.given)
 
 pub returns : goal.returns
 returns c =
     let parts = c.into_parts-parts.ensures in
-    state-is _ parts.image parts.threads (c.in_ok-objects.ensures.items ∙ ap (λ (i : Image). objects_from i.boots 0 i.objects) parts.image ∙ sym parts.objects) parts.pairs parts.domains parts.memory parts.stacks parts.pools (ap (λ (k : ℕ × List ℕ). k.0) c.in_ok-clock.ensures ∙ sym parts.now) (ap (λ (k : ℕ × List ℕ). k.1) c.in_ok-clock.ensures ∙ sym parts.armed) (c.new-2.ensures ∙ sym parts.joins) (c.new-3.ensures ∙ sym parts.futexes)
+    state-is _ parts.image parts.threads (c.in_ok-objects.ensures.items ∙ ap (λ (i : Image). objects_from i.boots 0 i.objects) parts.image ∙ sym parts.objects) parts.pairs parts.domains (c.new-2.ensures.value ∙ parts.memory) (c.new-3.ensures.value ∙ parts.stacks) parts.pools (ap (λ (k : ℕ × List ℕ). k.0) c.in_ok-clock.ensures ∙ sym parts.now) (ap (λ (k : ℕ × List ℕ). k.1) c.in_ok-clock.ensures ∙ sym parts.armed) (c.new-4.ensures ∙ sym parts.joins) (c.new-5.ensures ∙ sym parts.futexes)
     ∙ c.in_ok-boot.ensures

@@ -1,0 +1,6 @@
+pub mod Answered
+pub mod Inputs
+pub mod Messages
+pub mod Told
+pub mod Top
+pub mod Words
