@@ -19,7 +19,7 @@ use um_fine_measure::longest_fine_run;
 use um_history::every_played_board;
 use um_io::Gate;
 use um_laws::every_run;
-use um_merge::{Log, merge};
+use um_merge::{Log, merged};
 use um_site::Closed;
 
 /// What processors have shown, and the board that they leave.
@@ -57,9 +57,9 @@ pub fn run_events<R: Threads + Wait + Sync, G: Gate + Sync>(
     every_run();
     let _objects = image.objects.len();
     let _domains = image.domains.len();
-    let mut steps = Log::with_room(alloc, most)?;
+    let room = Log::with_room(alloc, most)?;
     let Ended { logs, closed } = run_cpus(rt, alloc, image, cpus, most, gate)?;
-    merge(logs.as_slice(), &mut steps);
+    let steps = merged(logs, room);
     Ok(Ran {
         events: steps.into_events(),
         closed,

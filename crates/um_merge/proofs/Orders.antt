@@ -186,3 +186,29 @@ shown_step logs at shown c n before wide room more k here = dite (ℕ_discrete c
     (λ q. subst (λ (j : ℕ). get_or (set shown c n) j 0 ≡ length (events_of (take (get_or (set at c (get_or at c 0 + 1)) j 0) (log_at logs j)))) q
     (get_or-set_same shown c n 0 room ∙ (more ∙ sym (ap (λ (m : ℕ). length (events_of (take m (log_at logs c)))) (get_or-set_same at c (get_or at c 0 + 1) 0 wide)))))
     (λ ne. get_or-set_other shown c k n 0 (λ e. ne (sym e)) ∙ (before k here ∙ sym (ap (λ (m : ℕ). length (events_of (take m (log_at logs k)))) (get_or-set_other at c k (get_or at c 0 + 1) 0 (λ e. ne (sym e))))))
+
+-- where no step is of a later processor, all are of the first
+of-first : (x : Logged) (xs : List Logged) (n : ℕ) → cpu_of x ≡ n → ((k : ℕ) → sublist eqb cpu_of (suc k) (x ∷ xs) ≡ []) → cpu_of x ≡ 0
+of-first x xs zero is none = is
+of-first x xs (suc n) is none = absurd (not_nil [] (sublist eqb cpu_of (cpu_of x) xs) x (sym (sublist_head cpu_of x xs) ∙ ap (λ (k : ℕ). sublist eqb cpu_of k (x ∷ xs)) is ∙ none n))
+
+all-of-first : (order items : List Logged) → sublist eqb cpu_of 0 order ≡ items → ((k : ℕ) → sublist eqb cpu_of (suc k) order ≡ []) → order ≡ items
+all-of-first [] items same none = same
+all-of-first (x ∷ xs) items same none =
+    let here = of-first x xs (cpu_of x) refl none in
+    let first : sublist eqb cpu_of 0 (x ∷ xs) ≡ x ∷ sublist eqb cpu_of 0 xs = ap (λ b. cond b (x ∷ sublist eqb cpu_of 0 xs) (sublist eqb cpu_of 0 xs)) (eq-eqb (cpu_of x) 0 here) in
+    let others : (k : ℕ) → sublist eqb cpu_of (suc k) xs ≡ [] =
+    λ k. ap (λ b. cond b (x ∷ sublist eqb cpu_of (suc k) xs) (sublist eqb cpu_of (suc k) xs)) (sym (ne_eqb (cpu_of x) (suc k) (λ e. absurd (omega (arith, here, e))))) ∙ none k in
+    ap (λ l. x ∷ l) (all-of-first xs (sublist eqb cpu_of 0 xs) refl others) ∙ (sym first ∙ same)
+
+-- what was taken off a list of one log
+pub one-popped : (logs rest : List Log) (log : Log) → logs ≡ rest ++ log ∷ [] → length logs ≡ 1 → logs ≡ log ∷ []
+one-popped logs [] log is long = is
+one-popped logs (x ∷ rest) log is long = absurd (omega (arith, ap length is, long, length-append rest (log ∷ [])))
+
+-- the log of a single processor is in the order of every list of its steps
+pub alone : (logs : List Log) (log : Log) (order : List Logged) → logs ≡ log ∷ [] → IsOrder logs order → SameOrder log.items order
+alone logs log order one is =
+    let fit = subst (λ (ls : List Log). IsOrder ls order) one is in
+    let same = all-of-first order log.items (fit.logged 0) (λ k. fit.logged (suc k)) in
+    subst (λ (l : List Logged). SameOrder l order) same (λ k. refl, λ k. refl)

@@ -9,4 +9,4 @@ mod tests;
 
 pub use log::Log;
 pub use logged::{Logged, PROCESSORS, SITES};
-pub use merging::merge;
+pub use merging::merged;

@@ -59,3 +59,24 @@ pub fn merge(logs: &[Log], room: &mut Log)
         done[site as usize] = number;
     }
 }
+
+/// One list of all the steps of the logs of the processors 0, 1, .., at most 8, in which each processor's and each site's steps keep their
+/// order: a single log as it is, several ones merged into `room`. The caller shows what `merge` asks for.
+pub fn merged(logs: Vec<Log>, room: Log) -> Log
+    requires few { length logs.items ≤ 8 }
+    requires sites { AreAtSites logs.items }
+    requires fits { HaveOrder logs.items room.room }
+    requires empty { room.items ≡ [] }
+    ensures { (order : List Logged) → IsOrder logs.items order → SameOrder result.items order }
+{
+    let mut logs = logs;
+    let mut room = room;
+    if logs.len() == 1 {
+        match logs.pop() {
+            Some(log) => return log,
+            None => unreachable!(),
+        }
+    }
+    merge(&logs, &mut room);
+    room
+}

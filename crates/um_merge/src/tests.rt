@@ -3,6 +3,7 @@
 ghost use Rattle.std.specs.Prelude.{◌≡◌, ◌∷◌, [], None, Some, IfOk};
 
 use super::*;
+use crate::merging::merge;
 use std::alloc::{AllocError, Global};
 use std::test::Fail;
 use um_base::{Act, Event, ThreadIx};

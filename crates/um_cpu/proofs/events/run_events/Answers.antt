@@ -3,8 +3,7 @@ use Rattle.std.specs.Prelude.{IsTrue}
 use Rattle.um_base.specs.declared.act.Event.{Event}
 use Rattle.um_machine.specs.Run.{IsComplete, IsRun}
 use Rattle.um_machine.specs.State.{State}
-use Rattle.um_merge.specs.Logs.{Log, events_of}
-use Rattle.um_merge.specs.Merged.{AreAtSites, HaveOrder, IsOrder}
+use Rattle.um_merge.specs.Logs.{events_of}
 use Rattle.um_refinement.specs.After.{left_by}
 use Rattle.um_fine.specs.Sites.{SiteState, is_sort}
 use Rattle.um_closing.specs.Agreement.{AgreeInDump}
@@ -15,32 +14,31 @@ use Rattle.um_history.proofs.Ordered.{shown-noted}
 use Rattle.um_cpu.proofs.Shows.{at-sites, left-on, runs-on}
 use Rattle.um_cpu.proofs.events.run_events.Goals as goal
 
-pub merge-requires-clause-sites : goal.merge-requires-clause-sites
-merge-requires-clause-sites g c =
+pub merged-requires-clause-sites : goal.merged-requires-clause-sites
+merged-requires-clause-sites g c =
     let image = c.args.image.now in
     let is = runs-on image c.args.cpus c.requires.lawful c.len-objects.ensures.value c.len-objects.ensures.few c.len-domains.ensures.value c.len-domains.ensures.few c.requires.some c.requires.few in
     let ended = c.in_ok-logs.ensures in
     let fine = c.every_played_board.ensures.fine image c.args.cpus ended.view _ _ _ ended.steps is.0 is.1 ended.played in
-    subst AreAtSites (sym c.as_slice.ensures.value) (at-sites image c.args.cpus ended.view _ _ _ ended.steps ended.played fine.0 fine.1)
+    at-sites image c.args.cpus ended.view _ _ _ ended.steps ended.played fine.0 fine.1
 
-pub merge-requires-clause-fits : goal.merge-requires-clause-fits
-merge-requires-clause-fits g c =
+pub merged-requires-clause-fits : goal.merged-requires-clause-fits
+merged-requires-clause-fits g c =
     let image = c.args.image.now in
     let is = runs-on image c.args.cpus c.requires.lawful c.len-objects.ensures.value c.len-objects.ensures.few c.len-domains.ensures.value c.len-domains.ensures.few c.requires.some c.requires.few in
     let ended = c.in_ok-logs.ensures in
     let order = c.every_played_board.ensures.order image c.args.cpus ended.view _ _ _ ended.steps is.0 is.1 ended.played in
     let long = order.2 in
-    let room = c.in_ok-steps.ensures.room in
+    let room = c.in_ok-room.ensures.room in
     let most = c.requires.room in
-    subst (λ (l : List Log). HaveOrder l c.in_ok-steps.steps.room) (sym c.as_slice.ensures.value) (order.0, order.1, omega (arith, long, room, most))
+    (order.0, order.1, omega (arith, long, room, most))
 
 pub returns-clause-run : goal.returns-clause-run
 returns-clause-run g c =
     let image = c.args.image.now in
     let is = runs-on image c.args.cpus c.requires.lawful c.len-objects.ensures.value c.len-objects.ensures.few c.len-domains.ensures.value c.len-domains.ensures.few c.requires.some c.requires.few in
     let ended = c.in_ok-logs.ensures in
-    let last = c.every_played_board.ensures.complete image c.args.cpus ended.view _ _ _ ended.steps is.0 is.1 ended.played ended.saw c.merge.new.room.items
-    (λ order is. c.merge.ensures order (subst (λ (l : List Log). IsOrder l order) (sym c.as_slice.ensures.value) is)) in
+    let last = c.every_played_board.ensures.complete image c.args.cpus ended.view _ _ _ ended.steps is.0 is.1 ended.played ended.saw c.merged.result.items c.merged.ensures in
     subst (λ (l : List Event). (last : State) × IsRun image l last × IsComplete last) (sym c.into_events.ensures) last
 
 pub returns-clause-board : goal.returns-clause-board
@@ -48,8 +46,7 @@ returns-clause-board g c =
     let image = c.args.image.now in
     let is = runs-on image c.args.cpus c.requires.lawful c.len-objects.ensures.value c.len-objects.ensures.few c.len-domains.ensures.value c.len-domains.ensures.few c.requires.some c.requires.few in
     let ended = c.in_ok-logs.ensures in
-    let run = c.every_played_board.ensures.run image c.args.cpus ended.view _ _ _ ended.steps is.0 is.1 ended.played c.merge.new.room.items
-    (λ order is. c.merge.ensures order (subst (λ (l : List Log). IsOrder l order) (sym c.as_slice.ensures.value) is)) in
+    let run = c.every_played_board.ensures.run image c.args.cpus ended.view _ _ _ ended.steps is.0 is.1 ended.played c.merged.result.items c.merged.ensures in
     let over = c.every_played_board.ensures.over image c.args.cpus ended.view _ _ _ ended.steps is.0 is.1 ended.played ended.saw run.0 run.2 in
     (run.0, left-on image c.args.cpus _ ended.view _ ended.steps ended.seen ended.played ended.alone run.0 run.2 over run.4, c.into_events.ensures ∙ ap events_of (sym run.1) ∙ shown-noted run.0)
 
