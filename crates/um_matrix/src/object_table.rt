@@ -1,7 +1,7 @@
 //! The objects of all rows.
 
 ghost use Rattle.std.specs.{
-  Prelude.{◌≡◌, ◌<◌, ◌≤◌, ◌-◌, ◌++◌, IfOk, length, replicate, slice_index_or, slice_set, IsTrue, vec_len, vec_capacity},
+  Prelude.{◌≡◌, ◌<◌, ◌≤◌, ◌-◌, ◌++◌, ℕ, IfOk, length, replicate, slice_index_or, IsTrue, vec_capacity},
   Borrow.{sem},
 };
 ghost use Rattle.um_base.specs.Lawful.{IsLawful};
@@ -9,6 +9,7 @@ ghost use Rattle.um_machine.specs.{
   Run.{objects_from},
   State.{vacant},
 };
+ghost use Rattle.um_steps.specs.Padded.{padded};
 
 use std::alloc::Global;
 use std::marker::Model;
@@ -72,13 +73,24 @@ fn fill(rows: &mut Vec<Object>, n: usize)
     }
 }
 
-/// Whether two lists of equally many objects are the same.
-fn same_objects(a: &[Object], b: &[Object]) -> bool
-    requires { length a.now ≡ length b.now }
-    ensures { IsTrue result → a.now ≡ b.now }
+/// The object at a place of a list, or the blank one where the list is shorter.
+fn object_or<'a>(rows: &'a [Object], x: usize, blank: &'a Object) -> &'a Object
+    ensures { result.now ≡ slice_index_or rows.now x blank.now }
 {
-    for x in 0..a.len() {
-        if !a[x].is_same(&b[x]) {
+    match rows.get(x) {
+        Some(object) => object,
+        None => blank,
+    }
+}
+
+/// Whether two lists have the same objects, with vacant ones behind the shorter.
+fn same_objects(a: &[Object], b: &[Object], blank: &Object) -> bool
+    requires { blank.now ≡ vacant }
+    ensures { IsTrue result
+        → (n : ℕ) → length a.now ≤ n → length b.now ≤ n → padded vacant n a.now ≡ padded vacant n b.now }
+{
+    for x in 0..a.len().max(b.len()) {
+        if !object_or(a, x, blank).is_same(object_or(b, x, blank)) {
             return false;
         }
     }
@@ -94,16 +106,17 @@ fn take_object(own: &mut Object, other: &Object)
     }
 }
 
-/// Takes over a list of objects, for which there is room.
-fn take_objects(own: &mut Vec<Object>, other: &[Object])
-    requires { length other.now ≤ vec_capacity own.old }
-    ensures items { own.new.items ≡ other.now }
+/// Takes over a list of objects, for which there is room. The list gets no shorter: what lies behind them is made vacant.
+fn take_objects(own: &mut Vec<Object>, other: &[Object], blank: &Object)
+    requires room { length other.now ≤ vec_capacity own.old }
+    requires blank { blank.now ≡ vacant }
+    ensures items { (n : ℕ) → length own.old.items ≤ n → length other.now ≤ n
+        → (length own.new.items ≤ n) × (padded vacant n own.new.items ≡ padded vacant n other.now) }
     ensures room { vec_capacity own.new ≡ vec_capacity own.old }
 {
-    own.truncate(other.len());
     fill(own, other.len());
-    for x in 0..other.len() {
-        take_object(&mut own[x], &other[x]);
+    for x in 0..own.len() {
+        take_object(&mut own[x], object_or(other, x, blank));
     }
 }
 
@@ -143,46 +156,20 @@ impl ObjectTable {
         }
     }
 
-    /// How many rows there are.
-    #[tactic(auto, using(crate::proofs::TableLemmas::rows_long))]
-    fn count(&self) -> usize
-        ensures value { result ≡ length self.now }
-        ensures all { result ≡ ROWS }
-    {
-        let _statics = self.statics.len();
-        ROWS
-    }
-
     /// Whether two tables have the same objects.
     pub fn is_same(&self, other: &ObjectTable) -> bool
         ensures { IsTrue result → self.now ≡ other.now }
     {
-        let statics = self.statics.len() == other.statics.len();
-        if !statics || self.dynamics.len() != other.dynamics.len() {
-            return self.has_same_rows(other);
-        }
-        same_objects(&self.statics, &other.statics) && same_objects(&self.dynamics, &other.dynamics)
-    }
-
-    /// Whether two tables have the same object in each row.
-    fn has_same_rows(&self, other: &ObjectTable) -> bool
-        ensures { IsTrue result → self.now ≡ other.now }
-    {
-        let _rows = (self.count(), other.count());
-        for x in 0..ROWS {
-            if !self.row(x).is_same(other.row(x)) {
-                return false;
-            }
-        }
-        true
+        same_objects(&self.statics, &other.statics, &self.blank[0])
+            && same_objects(&self.dynamics, &other.dynamics, &self.blank[0])
     }
 
     /// Takes over the objects of another table. It takes no memory.
     pub fn set_to(&mut self, other: &ObjectTable)
         ensures { self.new ≡ other.now }
     {
-        take_objects(&mut self.statics, &other.statics);
-        take_objects(&mut self.dynamics, &other.dynamics);
+        take_objects(&mut self.statics, &other.statics, &other.blank[0]);
+        take_objects(&mut self.dynamics, &other.dynamics, &other.blank[0]);
     }
 
     /// The objects that were ever written, of the static rows and of the dynamic ones.

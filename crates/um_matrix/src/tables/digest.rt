@@ -70,8 +70,7 @@ fn mix_waiters(digest: u64, waiters: &Waiters) -> u64 {
     mixed
 }
 
-/// Mixes what a call of a thread has worked out into a digest. The rows that it has checked, or has still to drop, are left out: they follow
-/// mostly from the steps that are left.
+/// Mixes what a call of a thread has worked out into a digest, and the rows that it has checked or has still to pass on or to drop.
 fn mix_call(digest: u64, thread: &Thread) -> u64 {
     let mut mixed = mix(digest, thread.pending.len() as u64);
     for register in &thread.registers {
@@ -79,6 +78,8 @@ fn mix_call(digest: u64, thread: &Thread) -> u64 {
     }
     mixed = mix(mixed, reply_number(thread.reply));
     mixed = mix_bytes(mixed, thread.buffer.as_slice());
+    mixed = mix_marks(mixed.rotate_left(11), &thread.checked);
+    mixed = mix_marks(mixed.rotate_left(11), &thread.due);
     mix(mixed, thread_number(thread.child))
 }
 
