@@ -14,16 +14,16 @@ use Rattle.um_history.proofs.Ordered.{shown-noted}
 use Rattle.um_cpu.proofs.Shows.{at-sites, left-on, runs-on}
 use Rattle.um_cpu.proofs.events.run_events.Goals as goal
 
-pub merged-requires-clause-sites : goal.merged-requires-clause-sites
-merged-requires-clause-sites g c =
+pub merged-steps-requires-clause-sites : goal.merged-steps-requires-clause-sites
+merged-steps-requires-clause-sites g c =
     let image = c.args.image.now in
     let is = runs-on image c.args.cpus c.requires.lawful c.len-objects.ensures.value c.len-objects.ensures.few c.len-domains.ensures.value c.len-domains.ensures.few c.requires.some c.requires.few in
     let ended = c.in_ok-logs.ensures in
     let fine = c.every_played_board.ensures.fine image c.args.cpus ended.view _ _ _ ended.steps is.0 is.1 ended.played in
     at-sites image c.args.cpus ended.view _ _ _ ended.steps ended.played fine.0 fine.1
 
-pub merged-requires-clause-fits : goal.merged-requires-clause-fits
-merged-requires-clause-fits g c =
+pub merged-steps-requires-clause-fits : goal.merged-steps-requires-clause-fits
+merged-steps-requires-clause-fits g c =
     let image = c.args.image.now in
     let is = runs-on image c.args.cpus c.requires.lawful c.len-objects.ensures.value c.len-objects.ensures.few c.len-domains.ensures.value c.len-domains.ensures.few c.requires.some c.requires.few in
     let ended = c.in_ok-logs.ensures in
@@ -38,7 +38,7 @@ returns-clause-run g c =
     let image = c.args.image.now in
     let is = runs-on image c.args.cpus c.requires.lawful c.len-objects.ensures.value c.len-objects.ensures.few c.len-domains.ensures.value c.len-domains.ensures.few c.requires.some c.requires.few in
     let ended = c.in_ok-logs.ensures in
-    let last = c.every_played_board.ensures.complete image c.args.cpus ended.view _ _ _ ended.steps is.0 is.1 ended.played ended.saw c.merged.result.items c.merged.ensures in
+    let last = c.every_played_board.ensures.complete image c.args.cpus ended.view _ _ _ ended.steps is.0 is.1 ended.played ended.saw c.merged-steps.result.items c.merged-steps.ensures in
     subst (λ (l : List Event). (last : State) × IsRun image l last × IsComplete last) (sym c.into_events.ensures) last
 
 pub returns-clause-board : goal.returns-clause-board
@@ -46,7 +46,7 @@ returns-clause-board g c =
     let image = c.args.image.now in
     let is = runs-on image c.args.cpus c.requires.lawful c.len-objects.ensures.value c.len-objects.ensures.few c.len-domains.ensures.value c.len-domains.ensures.few c.requires.some c.requires.few in
     let ended = c.in_ok-logs.ensures in
-    let run = c.every_played_board.ensures.run image c.args.cpus ended.view _ _ _ ended.steps is.0 is.1 ended.played c.merged.result.items c.merged.ensures in
+    let run = c.every_played_board.ensures.run image c.args.cpus ended.view _ _ _ ended.steps is.0 is.1 ended.played c.merged-steps.result.items c.merged-steps.ensures in
     let over = c.every_played_board.ensures.over image c.args.cpus ended.view _ _ _ ended.steps is.0 is.1 ended.played ended.saw run.0 run.2 in
     (run.0, left-on image c.args.cpus _ ended.view _ ended.steps ended.seen ended.played ended.alone run.0 run.2 over run.4, c.into_events.ensures ∙ ap events_of (sym run.1) ∙ shown-noted run.0)
 
